@@ -1,0 +1,2 @@
+mod Decodes
+pub mod Spelling

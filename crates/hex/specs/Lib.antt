@@ -1,0 +1,3 @@
+pub mod Buffer
+pub mod Refusals
+pub mod Text

@@ -1,0 +1,3 @@
+//! Traces: what a recorded run asks of a leveller, one frame to a line.
+pub mod fault;
+pub mod frame;
