@@ -1,2 +1,2 @@
-mod Decodes
+pub mod Decodes
 pub mod Spelling

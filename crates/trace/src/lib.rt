@@ -2,3 +2,4 @@
 pub mod fault;
 pub mod frame;
 pub mod line;
+pub mod reader;
