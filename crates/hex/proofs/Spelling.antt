@@ -64,6 +64,7 @@ pub value-of : (c v : ℕ) → Digit c v → digit-value c ≡ Some v
 value-of c v d = ⊎-elim low high (order v 10) where
   low : v < 10 → digit-value c ≡ Some v
   low h = from-decimal c v h (⊎-elim (λ e. e ∙ simp (lt-ltb v 10 h)) (λ e. e ∙ simp (lt-ltb v 10 h)) (d .either))
+
   high : 10 ≤ v → digit-value c ≡ Some v
   high h = ⊎-elim (λ e. from-capital c v h (d .small) (e ∙ simp (le-ltb v 10 h))) (λ e. from-small c v h (d .small) (e ∙ simp (le-ltb v 10 h))) (d .either)
 

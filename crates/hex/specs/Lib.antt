@@ -1,3 +1,2 @@
-pub mod Buffer
 pub mod Refusals
 pub mod Text

@@ -49,6 +49,7 @@ line-bytes n ds = cond (ltb 0 (length ds) && leb (length ds) (2 * n)) (decoded d
 -- the character of the digit v, in upper and in lower case
 abbrev pub upper : ℕ → ℕ
 upper v = cond (ltb v 10) (48 + v) (55 + v)
+
 abbrev pub lower : ℕ → ℕ
 lower v = cond (ltb v 10) (48 + v) (87 + v)
 

@@ -2,10 +2,10 @@
 ghost use mathlib.Core.Path.{_≡_};
 ghost use Rattle.std.specs.Results.{Cases};
 ghost use Rattle.std.specs.declared.option.Option.the-variants.{Some, None};
-ghost use Rattle.hex.specs.Buffer.{held};
+ghost use Rattle.bounded.specs.Buffer.{held};
 ghost use Rattle.hex.specs.Refusals.{text-number};
 ghost use Rattle.hex.specs.Text.{digit-value, pair-value, line-bytes, Spells, Unspelled};
-use crate::bytes::Bytes;
+use bounded::bytes::Bytes;
 
 /// Why a text is refused.
 #[derive(Clone, Copy, PartialEq, Eq, Debug)]

@@ -1,2 +1,3 @@
+pub mod Spaces
 pub mod Whole
 pub mod Wire

@@ -59,7 +59,15 @@ settings-back s o e =
     let logical = two-back (s .logical) in
     let order = sym e in
     λ i. record {
-      blocks = blocks i; pages = s .pages; bytes = bytes i; erases = erases i; k = s .k; threshold = threshold i; order = order i; logical = logical i }
+      blocks = blocks i;
+      pages = s .pages;
+      bytes = bytes i;
+      erases = erases i;
+      k = s .k;
+      threshold = threshold i;
+      order = order i;
+      logical = logical i;
+    }
 
 -- the setup that an order byte chooses
 abbrev chosen : Settings → ℕ → Result Frame FrameFault
@@ -118,7 +126,7 @@ module _ (bs : List ℕ) (small : (i : ℕ) → at bs i < 256) (sums : sum bs % 
   setup-only o is e =
       let shape = and-parts (eqb (at bs 0) 1) (eqb (length bs) 17) e in
       let front =
-          at bs 0 ∷ at bs 1 ∷ at bs 2 ∷ at bs 3 ∷ at bs 4 ∷ at bs 5 ∷ at bs 6 ∷ at bs 7 ∷ at bs 8 ∷ at bs 9 ∷ at bs 10 ∷ at bs 11 ∷ at bs 12 ∷ at bs 13 ∷ at bs 14 ∷ at bs 15 ∷ [] in
+      at bs 0 ∷ at bs 1 ∷ at bs 2 ∷ at bs 3 ∷ at bs 4 ∷ at bs 5 ∷ at bs 6 ∷ at bs 7 ∷ at bs 8 ∷ at bs 9 ∷ at bs 10 ∷ at bs 11 ∷ at bs 12 ∷ at bs 13 ∷ at bs 14 ∷ at bs 15 ∷ [] in
       let whole : bs ≡ front ++ at bs 16 ∷ [] = listed 17 (eqb-true _ 17 (shape .1)) in
       let kind = eqb-true _ 1 (shape .0) in
       let n1 = two-front (at bs 1) (at bs 2) (small 2) in

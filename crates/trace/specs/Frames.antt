@@ -71,7 +71,15 @@ shaped kind n bs = eqb (at bs 0) kind && eqb (length bs) n
 -- the settings in a setup's bytes, under an order
 abbrev pub settings : List ℕ → OrderKind → Settings
 settings bs order = record {
-  blocks = at2 bs 1; pages = at bs 3; bytes = at2 bs 4; erases = at4 bs 6; k = at bs 10; threshold = at2 bs 11; order = order; logical = at2 bs 14 }
+  blocks = at2 bs 1;
+  pages = at bs 3;
+  bytes = at2 bs 4;
+  erases = at4 bs 6;
+  k = at bs 10;
+  threshold = at2 bs 11;
+  order = order;
+  logical = at2 bs 14;
+}
 
 abbrev pub setup-of : List ℕ → Result Frame FrameFault
 setup-of bs =

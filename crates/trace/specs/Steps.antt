@@ -9,7 +9,7 @@ use Rattle.std.specs.declared.option.Option.{Option}
 use Rattle.std.specs.declared.option.Option.the-variants.{Some, None}
 use Rattle.std.specs.declared.result.Result.{Result}
 use Rattle.std.specs.declared.result.Result.the-variants.{Ok, Err}
-use Rattle.hex.specs.Buffer.{held}
+use Rattle.bounded.specs.Buffer.{held}
 use Rattle.hex.specs.declared.text.TextFault.the-variants.{NotHexadecimal}
 use Rattle.trace.specs.Lines.{line-frame}
 use Rattle.trace.specs.Reading.{Reading, placed, next-line, faulty}

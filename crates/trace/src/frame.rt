@@ -49,7 +49,25 @@ pub fn decode_frame(bytes: &[u8]) -> Result<Frame, FrameFault>
         return Err(FrameFault::WrongCheck);
     }
     match bytes {
-        [1, n1, n0, p, d1, d0, e3, e2, e1, e0, k, t1, t0, order, l1, l0, _] => {
+        [
+            1,
+            n1,
+            n0,
+            p,
+            d1,
+            d0,
+            e3,
+            e2,
+            e1,
+            e0,
+            k,
+            t1,
+            t0,
+            order,
+            l1,
+            l0,
+            _,
+        ] => {
             let order = match order {
                 0 => OrderKind::FewestLive,
                 1 => OrderKind::CostBenefit,
@@ -66,9 +84,16 @@ pub fn decode_frame(bytes: &[u8]) -> Result<Frame, FrameFault>
                 logical: u16::from_be_bytes([*l1, *l0]),
             }))
         }
-        [2, high, low, fill, _] => Ok(Frame::Write { page: u16::from_be_bytes([*high, *low]), fill: *fill }),
-        [3, high, low, _] => Ok(Frame::Discard { page: u16::from_be_bytes([*high, *low]) }),
-        [4, high, low, _] => Ok(Frame::Read { page: u16::from_be_bytes([*high, *low]) }),
+        [2, high, low, fill, _] => Ok(Frame::Write {
+            page: u16::from_be_bytes([*high, *low]),
+            fill: *fill,
+        }),
+        [3, high, low, _] => Ok(Frame::Discard {
+            page: u16::from_be_bytes([*high, *low]),
+        }),
+        [4, high, low, _] => Ok(Frame::Read {
+            page: u16::from_be_bytes([*high, *low]),
+        }),
         _ => Err(FrameFault::WrongForm),
     }
 }

@@ -1,6 +1,7 @@
 //! The reader of a whole input, which arrives byte by byte.
 use crate::fault::Fault;
-use hex::bytes::Bytes;
+use bounded::bytes::Bytes;
+
 pub mod calls;
 
 /// The longest line of a trace, in characters.

@@ -14,7 +14,7 @@ use crate::fault::Fault;
 use crate::fault::FrameFault;
 use crate::frame::Frame;
 use crate::line::read_line;
-use hex::bytes::Bytes;
+use bounded::bytes::Bytes;
 use hex::text::TextFault;
 
 const LINE_FEED: u8 = b'\n';
@@ -34,7 +34,11 @@ fn read_placed(line: &[u8], started: bool) -> Result<Frame, Cause>
     ensures { λ r. ⌜ r ≡ placed started (line-frame (now (line .entry))) ⌝ }
 {
     let frame = read_line(line)?;
-    if fits_place(started, frame) { Ok(frame) } else { Err(FrameFault::WrongPlace.into()) }
+    if fits_place(started, frame) {
+        Ok(frame)
+    } else {
+        Err(FrameFault::WrongPlace.into())
+    }
 }
 
 impl Reader {
@@ -42,7 +46,12 @@ impl Reader {
     pub fn new() -> Reader
         ensures { λ r. ⌜ view r ≡ beginning ⌝ }
     {
-        Reader { line: 1, started: false, rest: Bytes::new(), fault: None }
+        Reader {
+            line: 1,
+            started: false,
+            rest: Bytes::new(),
+            fault: None,
+        }
     }
 
     /// Takes one byte more: answers the frame of a line that ends with it, nothing yet, or the fault. After a fault it changes
@@ -76,7 +85,11 @@ impl Reader {
         if !self.rest.as_slice().is_empty() {
             return self.end_line();
         }
-        if self.started { Ok(None) } else { Err(self.stop(Cause::Frame(FrameFault::WrongPlace))) }
+        if self.started {
+            Ok(None)
+        } else {
+            Err(self.stop(Cause::Frame(FrameFault::WrongPlace)))
+        }
     }
 
     /// The frame of the line that has ended, or the fault.
@@ -100,7 +113,10 @@ impl Reader {
         ensures after { λ r. ⌜ view (now (self .exit)) ≡ stopped (view (now (self .entry))) r .after ⌝ }
         ensures value { λ r. ⌜ r ≡ faulty cause (now (self .entry) .line) ⌝ }
     {
-        let fault = Fault { cause, line: self.line };
+        let fault = Fault {
+            cause,
+            line: self.line,
+        };
         self.fault = Some(fault);
         fault
     }

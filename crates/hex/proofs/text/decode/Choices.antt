@@ -1,7 +1,7 @@
 use mathlib.Core.Path.{_≡_}
 use Prim.Native.Nat.{_*_}
 use lib.ListN.{length, drop}
-use Rattle.hex.specs.Buffer.{held}
+use Rattle.bounded.specs.Buffer.{held}
 use Rattle.hex.specs.Text.{decoded}
 use Rattle.hex.proofs.Decodes.{before}
 use Rattle.hex.proofs.text.decode.Given as given

@@ -1,7 +1,7 @@
 use mathlib.Core.Path.{_≡_, sym, ap, _∙_}
 use Rattle.std.proofs.shelf.Results.{err-from-errBy}
 use Rattle.std.specs.declared.result.Result.the-variants.{Ok, Err}
-use Rattle.hex.specs.Buffer.{held}
+use Rattle.bounded.specs.Buffer.{held}
 use Rattle.trace.specs.Frames.{frame-of}
 use Rattle.trace.specs.Lines.{caused, given, line-frame}
 use Rattle.trace.specs.declared.fault.Cause.the-variants.{Text}

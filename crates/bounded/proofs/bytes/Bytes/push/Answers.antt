@@ -5,7 +5,7 @@ use native.Mathlib.Numerals.{add-one}
 use native.Mathlib.Omega.{arith}
 use mathlib.Core.Path.{refl}
 use borrow.Author.Tests.{lt-true, le-false}
-use Rattle.hex.proofs.bytes.Bytes.push.Needs as need
+use Rattle.bounded.proofs.bytes.Bytes.push.Needs as need
 
 pub returns-then-len : need.returns-then-len
 returns-then-len g c =

@@ -1,10 +1,10 @@
 //! What a bounded buffer does.
 ghost use mathlib.Core.Path.{_≡_};
-ghost use mathlib.Core.Bool.{Bool, true, false, cond};
+ghost use mathlib.Core.Bool.{cond};
 ghost use mathlib.Core.List.{[], _∷_, _++_};
 ghost use lib.Dec.{ltb};
-ghost use lib.ListN.{length};
-ghost use Rattle.hex.specs.Buffer.{held};
+ghost use lib.ListN.{length, take};
+ghost use Rattle.bounded.specs.Buffer.{held};
 use super::Bytes;
 
 impl<const N: usize> Bytes<N> {
@@ -12,7 +12,10 @@ impl<const N: usize> Bytes<N> {
     pub fn new() -> Self
         ensures { λ r. ⌜ held r ≡ [] ⌝ }
     {
-        Bytes { items: [0; N], len: 0 }
+        Bytes {
+            items: [0; N],
+            len: 0,
+        }
     }
 
     /// Keeps one byte more, or answers false and keeps what it had where it is full.
@@ -27,6 +30,15 @@ impl<const N: usize> Bytes<N> {
         self.items[len] = byte;
         self.len = len + 1;
         true
+    }
+
+    /// Keeps as much of `more`, from its front, as there is room for.
+    pub fn append(&mut self, more: &[u8])
+        ensures { λ _. ⌜ held (now (self .exit)) ≡ take N (held (now (self .entry)) ++ now (more .entry)) ⌝ }
+    {
+        for byte in more {
+            let _ = self.push(*byte);
+        }
     }
 
     /// Forgets what it keeps.

@@ -2,7 +2,7 @@
 use mathlib.Core.List.{List}
 use Prim.Native.Nat.{ℕ}
 use lib.ListN.{take}
-use Rattle.hex.specs.declared.bytes.Bytes.{Bytes}
+use Rattle.bounded.specs.declared.bytes.Bytes.{Bytes}
 
 -- the bytes that a buffer keeps, in the order in which they came
 abbrev pub held : {n : ℕ} → Bytes n → List ℕ
