@@ -1,12 +1,12 @@
 //! Lists the frames of the trace on standard input in words, a line each, and last the fault, where there is one.
+use listing::words::fault_line;
+use listing::words::frame_line;
 use std::io;
 use std::io::BufWriter;
 use std::io::Read;
 use std::io::Stdout;
 use std::io::Write;
 use trace::reader::Reader;
-use trace::words::fault_line;
-use trace::words::frame_line;
 
 /// Lists the frames that end within a piece of the input; false after a fault, with which the list ends.
 fn list(reader: &mut Reader, piece: &[u8], out: &mut BufWriter<Stdout>) -> io::Result<bool> {

@@ -1,3 +1,2 @@
-pub mod Spaces
 pub mod Whole
 pub mod Wire

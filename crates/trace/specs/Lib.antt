@@ -3,4 +3,3 @@ pub mod Frames
 pub mod Lines
 pub mod Reading
 pub mod Steps
-pub mod Words

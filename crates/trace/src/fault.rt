@@ -77,15 +77,15 @@ impl Cause {
 pub impl From<TextFault> for Cause as CauseFromText {
     ghost converts = { λ e r. r ≡ Text e };
 
-    fn from(fault: TextFault) -> Cause {
-        Cause::Text(fault)
+    fn from(text: TextFault) -> Cause {
+        Cause::Text(text)
     }
 }
 
 pub impl From<FrameFault> for Cause as CauseFromFrame {
     ghost converts = { λ e r. r ≡ Frame e };
 
-    fn from(fault: FrameFault) -> Cause {
-        Cause::Frame(fault)
+    fn from(frame: FrameFault) -> Cause {
+        Cause::Frame(frame)
     }
 }

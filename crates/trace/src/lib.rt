@@ -3,4 +3,3 @@ pub mod fault;
 pub mod frame;
 pub mod line;
 pub mod reader;
-pub mod words;

@@ -5,9 +5,9 @@ use lib.Chars.{codes}
 use lib.ListN.{take}
 use Rattle.bounded.specs.Buffer.{held}
 use Rattle.bounded.proofs.Fronts.{appends-more}
-use Rattle.trace.specs.Words.{labelled, order-word}
-use Rattle.trace.proofs.Spaces.{start-le}
-use Rattle.trace.proofs.words.append_start.Needs as need
+use Rattle.listing.specs.Words.{labelled, order-word}
+use Rattle.listing.proofs.Spaces.{start-le}
+use Rattle.listing.proofs.words.append_start.Needs as need
 
 pub returns : need.returns
 returns c =

@@ -4,14 +4,14 @@ ghost use mathlib.Core.List.{_++_};
 ghost use Prim.Native.Nat.{_≤_};
 ghost use lib.ListN.{length, take};
 ghost use Rattle.bounded.specs.Buffer.{held};
-ghost use Rattle.trace.specs.Words.{labelled, order-word, layer-word, chip-words, start-words, frame-words, fault-words, line-of};
-use crate::fault::Fault;
-use crate::fault::Layer;
-use crate::frame::Frame;
-use crate::frame::OrderKind;
-use crate::frame::Settings;
+ghost use Rattle.listing.specs.Words.{labelled, order-word, layer-word, chip-words, start-words, frame-words, fault-words, line-of};
 use bounded::bytes::Bytes;
 use bounded::decimal::append_decimal;
+use trace::fault::Fault;
+use trace::fault::Layer;
+use trace::frame::Frame;
+use trace::frame::OrderKind;
+use trace::frame::Settings;
 
 /// No line of words is longer, its line feed counted.
 pub const LONGEST_WORDS: usize = 128;

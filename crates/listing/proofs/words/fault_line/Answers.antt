@@ -6,10 +6,10 @@ use lib.Chars.{codes}
 use lib.ListN.{take}
 use Rattle.bounded.specs.Buffer.{held}
 use Rattle.bounded.proofs.Fronts.{appends-more, appends-all}
 use Rattle.trace.specs.Faults.{cause-number, layer-of}
-use Rattle.trace.specs.Words.{labelled, layer-word, fault-words, line-of}
-use Rattle.trace.proofs.Spaces.{fault-le}
-use Rattle.trace.proofs.words.fault_line.Needs as need
+use Rattle.listing.specs.Words.{labelled, layer-word, fault-words, line-of}
+use Rattle.listing.proofs.Spaces.{fault-le}
+use Rattle.listing.proofs.words.fault_line.Needs as need
 
 pub returns : need.returns
 returns c =

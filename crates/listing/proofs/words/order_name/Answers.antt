@@ -1,6 +1,6 @@
 use mathlib.Core.Path.{sym, ap}
-use Rattle.trace.specs.Words.{order-word}
-use Rattle.trace.proofs.words.order_name.Needs as need
+use Rattle.listing.specs.Words.{order-word}
+use Rattle.listing.proofs.words.order_name.Needs as need
 
 pub returns-in-CostBenefit : need.returns-in-CostBenefit
 returns-in-CostBenefit c = sym (ap order-word (c .in-CostBenefit .is))

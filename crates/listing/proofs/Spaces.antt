@@ -8,14 +8,14 @@ use lib.Dec.{lit<, lit≤}
 use lib.ListN.{length, length-append}
 use Rattle.std.proofs.shelf.Decimals.{length-decimal-le}
 use Rattle.std.specs.Written.{decimal}
 use Rattle.trace.specs.Faults.{cause-number, layer-of}
-use Rattle.trace.specs.Words.{labelled, order-word, layer-word, chip-words, start-words, frame-words, fault-words, line-of}
+use Rattle.listing.specs.Words.{labelled, order-word, layer-word, chip-words, start-words, frame-words, fault-words, line-of}
 use Rattle.trace.specs.declared.fault.Layer.{Layer}
 use Rattle.trace.specs.declared.fault.Layer.the-variants as layer
 use Rattle.trace.specs.declared.fault.Fault.{Fault}
 use Rattle.trace.specs.declared.frame.OrderKind.{OrderKind}
 use Rattle.trace.specs.declared.frame.OrderKind.the-variants.{FewestLive, CostBenefit}
 use Rattle.trace.specs.declared.frame.Settings.{Settings}
 
 labelled-le : (label : List ℕ) (n k : ℕ) → 0 < k → n < 10 ^ k → n < 2 ^ 64 → length (labelled label n) ≤ length label + k
 labelled-le label n k some small fits = omega (arith, length-append label (decimal n), length-decimal-le k n some small fits)

@@ -8,12 +8,12 @@ use lib.ListN.{length, take}
 use Rattle.bounded.specs.Buffer.{held}
 use Rattle.bounded.specs.declared.bytes.Bytes.{Bytes}
 use Rattle.bounded.proofs.Fronts.{Appends, appends-more, appends-all}
-use Rattle.trace.specs.Words.{labelled, chip-words, start-words, frame-words, line-of}
+use Rattle.listing.specs.Words.{labelled, chip-words, start-words, frame-words, line-of}
 use Rattle.trace.specs.declared.frame.Frame.{Frame}
 use Rattle.trace.specs.declared.frame.Frame.the-variants.{Setup, Write, Discard, Read}
-use Rattle.trace.proofs.Spaces.{setup-le, write-le, page-le}
-use Rattle.trace.proofs.words.frame_line.Needs as need
-use Rattle.trace.proofs.words.frame_line.Needs.{in-Setup, in-Write, in-Discard, in-Read}
+use Rattle.listing.proofs.Spaces.{setup-le, write-le, page-le}
+use Rattle.listing.proofs.words.frame_line.Needs as need
+use Rattle.listing.proofs.words.frame_line.Needs.{in-Setup, in-Write, in-Discard, in-Read}
 
 -- a line whose words were appended to an empty buffer with room for them, and then its line feed
 ended : (b0 b1 b2 b3 : Bytes 128) (f g : Frame) → held b0 ≡ [] → Appends b0 b1 (frame-words g) → b2 ≡ b1 → Appends b2 b3 (10 ∷ []) → length (line-of (frame-words g)) ≤ 128 → f ≡ g → held b3 ≡ line-of (frame-words f)

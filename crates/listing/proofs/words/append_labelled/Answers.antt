@@ -1,6 +1,6 @@
 use Rattle.std.specs.Written.{decimal}
 use Rattle.bounded.proofs.Fronts.{appends-more}
-use Rattle.trace.proofs.words.append_labelled.Needs as need
+use Rattle.listing.proofs.words.append_labelled.Needs as need
 
 pub returns : need.returns
 returns c =
