@@ -7,7 +7,7 @@ use native.Mathlib.Omega.{arith}
 use lib.Dec.{ltb, eqb}
 use Rattle.std.proofs.shelf.Tests.{lt-ltb, le-ltb, eq-eqb, ne-eqb, eqb-true, eqb-false, cases-lt}
 use Rattle.std.proofs.shelf.Ways.{tells}
-use Rattle.orders.specs.declared.record.BlockRecord.{BlockRecord}
+use Rattle.orders.specs.declared.block.BlockRecord.{BlockRecord}
 use Rattle.orders.specs.Products.{gained}
 use Rattle.orders.specs.Ranks.{Figure, endless, over, figure, larger, equal, then-by, cost-benefit, least-erased}
 use Rattle.orders.proofs.Cross.{larger-first}

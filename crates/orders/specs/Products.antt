@@ -1,6 +1,6 @@
 -- The product by which the code compares two figures. Assumes nothing.
 use Prim.Native.Nat.{ℕ, _-_, _*_}
-use Rattle.orders.specs.declared.record.BlockRecord.{BlockRecord}
+use Rattle.orders.specs.declared.block.BlockRecord.{BlockRecord}
 
 -- the numerator of a's figure times the denominator of b's
 abbrev pub gained : BlockRecord → BlockRecord → ℕ

@@ -7,8 +7,8 @@ use mathlib.Core.Path.{_≡_}
 use mathlib.Core.Bool.{Bool, true, false, _||_, _&&_, cond}
 use Prim.Native.Nat.{ℕ, _-_, _*_}
 use lib.Dec.{ltb, eqb}
-use Rattle.orders.specs.declared.record.BlockRecord.{BlockRecord}
-use Rattle.orders.specs.declared.record.PageRecord.{PageRecord}
+use Rattle.orders.specs.declared.block.BlockRecord.{BlockRecord}
+use Rattle.orders.specs.declared.page.PageRecord.{PageRecord}
 
 -- by a first test, and where that finds the two equal by what follows
 abbrev pub then-by : Bool → Bool → Bool → Bool

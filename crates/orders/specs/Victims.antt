@@ -2,7 +2,7 @@
 use mathlib.Core.Path.{_≡_}
 use mathlib.Core.Bool.{Bool, true}
 use Prim.Native.Nat.{_<_}
-use Rattle.orders.specs.declared.record.BlockRecord.{BlockRecord}
+use Rattle.orders.specs.declared.block.BlockRecord.{BlockRecord}
 
 -- of two blocks with as many pages, one that is not all live goes before one that is
 abbrev pub Full-last : (BlockRecord → BlockRecord → Bool) → Type 0

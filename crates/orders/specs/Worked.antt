@@ -6,8 +6,8 @@ use mathlib.Core.Bool.{Bool, true, false, _&&_}
 use Prim.Native.Nat.{ℕ}
 use lib.Dec.{leb}
 use Rattle.std.proofs.shelf.Tests.{leb-true, and-parts}
-use Rattle.orders.specs.declared.record.BlockRecord.{BlockRecord}
-use Rattle.orders.specs.declared.record.PageRecord.{PageRecord}
+use Rattle.orders.specs.declared.block.BlockRecord.{BlockRecord}
+use Rattle.orders.specs.declared.page.PageRecord.{PageRecord}
 use Rattle.orders.specs.Ranks.{least-erased, fewest-live, cost-benefit, busiest}
 
 -- the bounds of a block record, by a test that computes

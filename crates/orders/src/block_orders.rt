@@ -4,9 +4,9 @@ ghost use mathlib.Core.Bool.{Bool};
 ghost use Prim.Native.Nat.{ℕ};
 ghost use Rattle.orders.specs.Ranks.{least-erased, fewest-live, cost-benefit};
 ghost use Rattle.orders.specs.Products.{gained};
+use crate::block::BlockNumbered;
+use crate::block::BlockRecord;
 use crate::order::Order;
-use crate::record::BlockNumbered;
-use crate::record::BlockRecord;
 
 /// Fewer erases, then the lower number: the order of the free pool.
 #[derive(Clone, Copy)]

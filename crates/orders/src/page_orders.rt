@@ -2,8 +2,8 @@
 ghost use mathlib.Core.Bool.{Bool};
 ghost use Rattle.orders.specs.Ranks.{busiest};
 use crate::order::Order;
-use crate::record::PageNumbered;
-use crate::record::PageRecord;
+use crate::page::PageNumbered;
+use crate::page::PageRecord;
 
 /// More writes, then the lower number.
 #[derive(Clone, Copy)]

@@ -2,13 +2,13 @@
 ghost use mathlib.Core.Path.{_≡_};
 ghost use mathlib.Core.Bool.{Bool};
 ghost use Rattle.orders.specs.Victims.{Full-last};
+use crate::block::BlockNumbered;
+use crate::block::BlockRecord;
 use crate::block_orders::CostBenefit;
 use crate::block_orders::CostBenefitOrder;
 use crate::block_orders::FewestLive;
 use crate::block_orders::FewestLiveOrder;
 use crate::order::Order;
-use crate::record::BlockNumbered;
-use crate::record::BlockRecord;
 
 /// An order in which full blocks come last, so that cleaning its first block frees a page
 /// wherever cleaning any block does.
