@@ -1,0 +1,4 @@
+pub mod Counts
+pub mod Heaps
+pub mod Refusals
+pub mod Rows
