@@ -9,7 +9,7 @@ use lib.ListN.{length, length-append}
 use Rattle.std.proofs.shelf.Decimals.{length-decimal-le}
 use Rattle.std.specs.Written.{decimal}
 use Rattle.trace.specs.Faults.{cause-number, layer-of}
-use Rattle.listing.specs.Words.{labelled, order-word, layer-word, chip-words, start-words, frame-words, fault-words, line-of}
+use Rattle.listing.specs.Words.{labelled, order-word, layer-word, chip-words, start-words, frame-words, fault-words, busy-words, line-of}
 use Rattle.trace.specs.declared.fault.Layer.{Layer}
 use Rattle.trace.specs.declared.fault.Layer.the-variants as layer
 use Rattle.trace.specs.declared.fault.Fault.{Fault}
@@ -72,4 +72,11 @@ fault-le e n l =
     let line = labelled-le (codes " line ") (e .line) 20 (lit< tt) (omega arith) (omega arith) in
     let last = more-le (codes " ") (layer-word (layer-of (e .cause))) 1 5 (lit≤ tt) (layer-le (layer-of (e .cause))) in
     let all = more-le (fault-words e) (10 ∷ []) 41 1 (more-le (labelled (codes "fault ") (cause-number (e .cause))) _ 9 32 number (more-le (labelled (codes " line ") (e .line)) (codes " " ++ layer-word (layer-of (e .cause))) 26 6 line last)) (lit≤ tt) in
+    omega arith
+
+pub busy-le : (page writes : ℕ) → page < 65536 → writes < 2 ^ 64 → length (line-of (busy-words page writes)) ≤ 128
+busy-le page writes p w =
+    let first = labelled-le (codes "busy ") page 5 (lit< tt) (omega arith) (omega arith) in
+    let second = labelled-le (codes " ") writes 20 (lit< tt) (omega arith) w in
+    let all = more-le (busy-words page writes) (10 ∷ []) 31 1 (more-le (labelled (codes "busy ") page) (labelled (codes " ") writes) 10 21 first second) (lit≤ tt) in
     omega arith

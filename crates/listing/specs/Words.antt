@@ -1,4 +1,4 @@
--- How frames and faults are written in words, one blank apart.
+-- How frames, faults and page counts are written in words, one blank apart.
 use mathlib.Core.List.{List, [], _∷_, _++_}
 use Prim.Native.Nat.{ℕ}
 use lib.Chars.{codes}
@@ -41,6 +41,10 @@ frame-words (Read page) = labelled (codes "read page ") page
 
 abbrev pub fault-words : Fault → List ℕ
 fault-words e = labelled (codes "fault ") (cause-number (e .cause)) ++ (labelled (codes " line ") (e .line) ++ (codes " " ++ layer-word (layer-of (e .cause))))
+
+-- a page and how often it was written
+abbrev pub busy-words : ℕ → ℕ → List ℕ
+busy-words page writes = labelled (codes "busy ") page ++ labelled (codes " ") writes
 
 -- words on a line of their own: a line feed (10) ends it
 abbrev pub line-of : List ℕ → List ℕ

@@ -1,10 +1,10 @@
-//! Frames and faults in words, one blank apart, each on a line of its own.
+//! Frames, faults and page counts in words, one blank apart, each on a line of its own.
 ghost use mathlib.Core.Path.{_≡_};
 ghost use mathlib.Core.List.{_++_};
 ghost use Prim.Native.Nat.{_≤_};
 ghost use lib.ListN.{length, take};
 ghost use Rattle.bounded.specs.Buffer.{held};
-ghost use Rattle.listing.specs.Words.{labelled, order-word, layer-word, chip-words, start-words, frame-words, fault-words, line-of};
+ghost use Rattle.listing.specs.Words.{labelled, order-word, layer-word, chip-words, start-words, frame-words, fault-words, busy-words, line-of};
 use bounded::bytes::Bytes;
 use bounded::decimal::append_decimal;
 use trace::fault::Fault;
@@ -115,6 +115,17 @@ pub fn fault_line(fault: &Fault) -> Words
     append_labelled(&mut out, b" line ", *line);
     out.append(b" ");
     out.append(layer_name(cause.layer()));
+    out.append(b"\n");
+    out
+}
+
+/// The line of words for a page and how often it was written.
+pub fn busy_line(page: u16, writes: u64) -> Words
+    ensures { λ r. ⌜ held r ≡ line-of (busy-words page writes) ⌝ }
+{
+    let mut out = Words::new();
+    append_labelled(&mut out, b"busy ", u64::from(page));
+    append_labelled(&mut out, b" ", writes);
     out.append(b"\n");
     out
 }
