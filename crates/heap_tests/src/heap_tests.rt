@@ -159,5 +159,6 @@ fn two_heaps_in_one_struct() -> Result<(), Fail> {
     check_eq(pools.close_first(), Ok(1))?;
     check_eq(pools.close_first(), Ok(0))?;
     check_eq(pools.close_first(), Err(HeapRefusal::NotThere))?;
+    check_eq(pools.victim(), Ok(block(2, 1, 0)))?;
     check_eq(pools.clean(), Ok(2))
 }

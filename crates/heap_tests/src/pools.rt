@@ -4,7 +4,9 @@ ghost use mathlib.Core.Bool.{Bool};
 ghost use Prim.Native.Nat.{ℕ};
 ghost use Rattle.orders.specs.declared.block.BlockRecord.{BlockRecord};
 ghost use Rattle.orders.specs.Ranks.{least-erased};
-ghost use Rattle.heap.specs.Heaps.{held, room, Sound, Empty};
+ghost use Rattle.std.specs.Results.{Cases};
+ghost use Rattle.heap.specs.Heaps.{held, Sound, Empty};
+ghost use Rattle.heap_tests.specs.Victims.{Frees};
 use heap::indexed::Heap;
 use heap::node::Node;
 use heap::refusal::HeapRefusal;
@@ -60,5 +62,12 @@ impl<'m, V: VictimOrder> Pools<'m, V> {
         let victim = self.closed.pop()?;
         self.free.add(victim.0)?;
         Ok(victim.0.number)
+    }
+
+    /// The best victim. Where a closed block with as many pages has one to give back, so has this.
+    pub fn victim(&self) -> Result<BlockRecord, HeapRefusal>
+        ensures { λ r. ⌜ (Sound (λ b. b .number) (V·Order .before) (now (self .entry) .closed) → Cases r (λ x. Frees (held (now (self .entry) .closed)) x) (λ _. Empty (held (now (self .entry) .closed)))) ⌝ }
+    {
+        self.closed.first()
     }
 }
