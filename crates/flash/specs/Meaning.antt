@@ -9,7 +9,7 @@
 use mathlib.Core.Path.{_≡_, refl, sym, ap, _∙_}
 use mathlib.Core.List.{List, [], _∷_, _++_}
 use Prim.Native.Nat.{ℕ, suc, _<_, _≤_}
-use lib.ListN.{length, getD, set}
+use lib.ListN.{length, getD, set, replicate}
 use Rattle.flash.specs.declared.Geometry.{Geometry}
 
 pub record Page : Type 0 where
@@ -48,6 +48,10 @@ no-page = page-of 0 []
 
 abbrev pub no-block : Block
 no-block = record { count = 0; pages = [] }
+
+-- A chip on which nothing is written and nothing was ever erased.
+abbrev pub blank : Geometry → Flash
+blank g = record { p = g .pages; d = g .size; e = g .rated; blocks = replicate (g .blocks) (record { count = 0; pages = [] }) }
 
 -- Block b, and page i of block b.
 abbrev pub block : Flash → ℕ → Block
