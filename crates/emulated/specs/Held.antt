@@ -13,15 +13,11 @@ use lib.ListN.{length, getD, take, drop}
 use Rattle.std.specs.Iters.{counting}
 use Rattle.flash.specs.declared.Geometry.{Geometry}
 use Rattle.flash.specs.Limits.{within}
-use Rattle.flash.specs.Meaning.{Flash, Block, Page}
+use Rattle.flash.specs.Meaning.{Flash, Block, Page, no-geometry}
 
--- N, P, D and E all 0.
-abbrev pub none : Geometry
-none = record { blocks = 0; pages = 0; size = 0; rated = 0 }
-
--- The geometry handed in, or none where it is outside the limits or the tags or the bytes are too few.
+-- The geometry handed in, or all 0 where it is outside the limits or the tags or the bytes are too few.
 abbrev pub served : Geometry → ℕ → ℕ → Geometry
-served g tags bytes = cond (within g && (leb (g .blocks * g .pages) tags && leb ((g .blocks * g .pages) * g .size) bytes)) g none
+served g tags bytes = cond (within g && (leb (g .blocks * g .pages) tags && leb ((g .blocks * g .pages) * g .size) bytes)) g no-geometry
 
 abbrev pub place : ℕ → ℕ → ℕ → ℕ
 place p b i = b * p + i

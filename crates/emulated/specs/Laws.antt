@@ -13,8 +13,8 @@ use Rattle.std.proofs.shelf.Counted.{length-map-counting, getD-map-counting}
 use Rattle.std.proofs.shelf.Tests.{and-parts}
 use Rattle.flash.specs.declared.Geometry.{Geometry}
 use Rattle.flash.specs.Limits.{within, between}
-use Rattle.flash.specs.Meaning.{Flash, Block, Page, WellFormed, BlockFits, PageFits, no-block, no-page, block}
-use Rattle.emulated.specs.Held.{none, served, held, chip-of, block-at, page-at, place}
+use Rattle.flash.specs.Meaning.{Flash, Block, Page, WellFormed, BlockFits, PageFits, no-geometry, no-block, no-page, block}
+use Rattle.emulated.specs.Held.{served, held, chip-of, block-at, page-at, place}
 
 pub place-lt : (n p b i : ℕ) → b < n → i < p → b * p + i < n * p
 place-lt n p b i lb li = omega (arith, mul-le-mul-right {m = suc b} {n = n} p lb, suc-mul b p)
@@ -31,7 +31,7 @@ pub record Room (g : Geometry) (tags bytes : ℕ) : Type 0 where
 pub served-room : (g : Geometry) (tags bytes : ℕ) → Room (served g tags bytes) tags bytes
 served-room g tags bytes = go (within g && (leb (g .blocks * g .pages) tags && leb ((g .blocks * g .pages) * g .size) bytes)) refl
   where
-    go : (t : Bool) → (within g && (leb (g .blocks * g .pages) tags && leb ((g .blocks * g .pages) * g .size) bytes)) ≡ t → Room (cond t g none) tags bytes
+    go : (t : Bool) → (within g && (leb (g .blocks * g .pages) tags && leb ((g .blocks * g .pages) * g .size) bytes)) ≡ t → Room (cond t g no-geometry) tags bytes
     go false q = record { few = omega arith; tagroom = omega arith; room = omega arith }
     go true q =
         let parts = and-parts (within g) _ q in

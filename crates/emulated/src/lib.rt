@@ -14,14 +14,6 @@ use flash::Refusal;
 /// A line of the tables for each block that a chip may have.
 const LINES: usize = MAX_BLOCKS as usize;
 
-/// The geometry of a chip that is not there.
-const NONE: Geometry = Geometry {
-    blocks: 0,
-    pages: 0,
-    size: 0,
-    rated: 0,
-};
-
 /// A chip in N × P × D bytes and N × P tags.
 #[derive(Drop)]
 pub struct Emulated<'a> {
@@ -53,13 +45,13 @@ impl<'a> Emulated<'a> {
     {
         let geometry = self.geometry;
         if !geometry.within_limits() {
-            return NONE;
+            return Geometry::NONE;
         }
         let places = geometry.blocks as usize * geometry.pages as usize;
         if places <= self.tags.len() && places * geometry.size <= self.bytes.len() {
             geometry
         } else {
-            NONE
+            Geometry::NONE
         }
     }
 }

@@ -38,7 +38,10 @@ page-of tag bytes = record { tag = tag; bytes = bytes }
 abbrev pub geometry-of : Flash → Geometry
 geometry-of f = record { blocks = length (f .blocks); pages = f .p; size = f .d; rated = f .e }
 
--- A chip whose N, P, D and E are all 0.
+-- N, P, D and E all 0, and the chip of which that holds.
+abbrev pub no-geometry : Geometry
+no-geometry = record { blocks = 0; pages = 0; size = 0; rated = 0 }
+
 abbrev pub no-chip : Flash
 no-chip = record { p = 0; d = 0; e = 0; blocks = [] }
 

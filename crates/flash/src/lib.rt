@@ -34,6 +34,14 @@ pub struct Geometry {
 }
 
 impl Geometry {
+    /// The geometry of a chip that is not there.
+    pub const NONE: Geometry = Geometry {
+        blocks: 0,
+        pages: 0,
+        size: 0,
+        rated: 0,
+    };
+
     /// Whether all four numbers lie within the limits above.
     pub fn within_limits(&self) -> bool
         ensures { λ r. ⌜ r ≡ within (now (self .entry)) ⌝ }
