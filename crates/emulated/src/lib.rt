@@ -45,13 +45,13 @@ impl<'a> Emulated<'a> {
     {
         let geometry = self.geometry;
         if !geometry.within_limits() {
-            return Geometry::NONE;
+            return Geometry::none();
         }
         let places = geometry.blocks as usize * geometry.pages as usize;
         if places <= self.tags.len() && places * geometry.size <= self.bytes.len() {
             geometry
         } else {
-            Geometry::NONE
+            Geometry::none()
         }
     }
 }

@@ -8,7 +8,7 @@ ghost use lib.ListN.{length};
 ghost use Rattle.std.specs.Results.{Cases};
 ghost use Rattle.flash.specs.Limits.{within};
 ghost use Rattle.flash.specs.Refusals.{number-of};
-ghost use Rattle.flash.specs.Meaning.{Flash, Op, program as programs, erase as erases, page-of, geometry-of, Lawful};
+ghost use Rattle.flash.specs.Meaning.{Flash, Op, program as programs, erase as erases, page-of, geometry-of, no-geometry, Lawful};
 ghost use Rattle.flash.specs.Calls.{count-answer, written-answer, tag-answer, read-answer, read-buffer, program-answer, program-chip, erase-answer, erase-chip};
 
 pub mod tools;
@@ -35,12 +35,16 @@ pub struct Geometry {
 
 impl Geometry {
     /// The geometry of a chip that is not there.
-    pub const NONE: Geometry = Geometry {
-        blocks: 0,
-        pages: 0,
-        size: 0,
-        rated: 0,
-    };
+    pub fn none() -> Geometry
+        ensures { λ r. ⌜ r ≡ no-geometry ⌝ }
+    {
+        Geometry {
+            blocks: 0,
+            pages: 0,
+            size: 0,
+            rated: 0,
+        }
+    }
 
     /// Whether all four numbers lie within the limits above.
     pub fn within_limits(&self) -> bool

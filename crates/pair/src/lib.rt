@@ -70,7 +70,7 @@ pub impl<A: Chip, B: Chip> Chip for Pair<A, B> as PairChip {
                 rated: a.rated,
             }
         } else {
-            Geometry::NONE
+            Geometry::none()
         }
     }
 
