@@ -86,11 +86,8 @@ module _ (g : Geometry) (s : Emulated) where
       pub read-turn : (m : ℕ) → getD (s .written) b 0 ≤ i → Err OutOfTurn ≡ read-answer (view g s) b i m
       read-turn m = unwritten (λ x. equal m (g .size) WrongLength (Ok tt))
 
-      pub read-size : (m : ℕ) → i < getD (s .written) b 0 → (m ≡ g .size → ⊥) → Err WrongLength ≡ read-answer (view g s) b i m
-      read-size m w ne = sym (wrote (λ x. equal m (g .size) WrongLength (Ok tt)) w ∙ equal-fails m (g .size) WrongLength (Ok tt) ne)
-
-      pub read-in : (m : ℕ) → i < getD (s .written) b 0 → m ≡ g .size → Ok tt ≡ read-answer (view g s) b i m
-      read-in m w q = sym (wrote (λ x. equal m (g .size) WrongLength (Ok tt)) w ∙ equal-passes m (g .size) WrongLength (Ok tt) q)
+      pub read-in : (m : ℕ) → i < getD (s .written) b 0 → equal m (g .size) WrongLength (Ok tt) ≡ read-answer (view g s) b i m
+      read-in m w = sym (wrote (λ x. equal m (g .size) WrongLength (Ok tt)) w)
 
       pub read-bytes : i < getD (s .written) b 0 → take (g .size) (drop (place (g .pages) b i * g .size) (now (s .bytes))) ≡ page (view g s) b i .bytes
       read-bytes w = sym (ap (λ (x : Block). getD (x .pages) i no-page .bytes) (block-is b h) ∙ ap (λ (x : Page). x .bytes) (page-is w))

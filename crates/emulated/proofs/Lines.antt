@@ -13,7 +13,8 @@ use Rattle.std.proofs.shelf.Tests.{cases-eq}
 use Rattle.flash.specs.declared.Geometry.{Geometry}
 use Rattle.flash.specs.Meaning.{Flash, Block, blank, no-block}
 use Rattle.emulated.specs.declared.Emulated.{Emulated}
-use Rattle.emulated.specs.Held.{held, block-at, page-at}
+use Rattle.emulated.specs.Held.{served, held, block-at, page-at}
+use Rattle.emulated.specs.Meaning.{emulated}
 
 -- the chip that s stands for at a geometry, and its block b
 abbrev pub view : Geometry → Emulated → Flash
@@ -21,6 +22,16 @@ view g s = held g (s .counts) (s .written) (now (s .tags)) (now (s .bytes))
 
 abbrev pub line : Geometry → Emulated → ℕ → Block
 line g s b = block-at (g .pages) (g .size) (g .rated) (s .counts) (s .written) (now (s .tags)) (now (s .bytes)) b
+
+-- what s stands for, by what its fields are
+pub emulated-by : (s : Emulated) (g : Geometry) (counts written tags bytes : List ℕ) → s .geometry ≡ g → s .counts ≡ counts → s .written ≡ written → now (s .tags) ≡ tags → now (s .bytes) ≡ bytes
+    → emulated s ≡ held (served g (length tags) (length bytes)) counts written tags bytes
+emulated-by s g counts written tags bytes p q r t u =
+    ap (λ x. held (served x (length (now (s .tags))) (length (now (s .bytes)))) (s .counts) (s .written) (now (s .tags)) (now (s .bytes))) p
+    ∙ ap (λ x. held (served g (length (now (s .tags))) (length (now (s .bytes)))) x (s .written) (now (s .tags)) (now (s .bytes))) q
+    ∙ ap (λ x. held (served g (length (now (s .tags))) (length (now (s .bytes)))) counts x (now (s .tags)) (now (s .bytes))) r
+    ∙ ap (λ x. held (served g (length x) (length (now (s .bytes)))) counts written x (now (s .bytes))) t
+    ∙ ap (λ x. held (served g (length tags) (length x)) counts written tags x) u
 
 -- two functions that agree below m make the same list
 pub map-same : {X : Type 0} (f g : ℕ → X) (m : ℕ) (d : X) → ((j : ℕ) → j < m → f j ≡ g j) → map f (counting 0 m) ≡ map g (counting 0 m)

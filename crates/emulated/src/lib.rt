@@ -1,9 +1,13 @@
 //! A flash chip that lies in memory lent by its maker, for tests and for programs that run without a device.
 ghost use mathlib.Core.Path.{_≡_};
-ghost use Prim.Native.Nat.{_<_, _%_};
-ghost use lib.ListN.{length, getD};
+ghost use Prim.Native.Nat.{_+_, _-_, _*_, _%_, _^_, _<_, _≤_, min};
+ghost use lib.ListN.{length, getD, set, take, drop};
 ghost use denote.Ref.{now as at};
+ghost use Rattle.std.specs.shelf.Lists.{paste};
+ghost use Rattle.std.specs.declared.result.Result.the-variants.{Ok};
+ghost use Rattle.flash.specs.declared.Refusal.the-variants.{WrongLength};
 ghost use Rattle.flash.specs.Meaning.{by-meaning, blank};
+ghost use Rattle.flash.specs.Calls.{equal, after};
 ghost use Rattle.emulated.specs.Held.{served};
 ghost use Rattle.emulated.specs.Meaning.{emulated, emulated-laws};
 use flash::Chip;
@@ -54,6 +58,73 @@ impl<'a> Emulated<'a> {
             Geometry::none()
         }
     }
+
+    /// How often a block was erased, at most E.
+    fn erases(&self, block: u16, rated: u32) -> u32
+        requires { ⌜ block < 256 ⌝ }
+        ensures { λ r. ⌜ r ≡ min (getD (now (self .entry) .counts) block 0) rated ⌝ }
+    {
+        self.counts[block as usize].min(rated)
+    }
+
+    /// How many pages of a block are written, at most P.
+    fn filled(&self, block: u16, pages: u32) -> u32
+        requires { ⌜ block < 256 ⌝ }
+        ensures { λ r. ⌜ r ≡ min (getD (now (self .entry) .written) block 0) pages ⌝ }
+    {
+        self.written[block as usize].min(pages)
+    }
+
+    /// Writes a page's tag and bytes at its place, and counts it.
+    fn put(&mut self, block: u16, place: usize, tag: u16, bytes: &[u8], written: u32)
+        requires block { ⌜ block < 256 ⌝ }
+        requires tag { ⌜ place < length (at (now self .tags)) ⌝ }
+        requires bytes { ⌜ place * length (now bytes) + length (now bytes) ≤ length (at (now self .bytes)) ⌝ }
+        ensures geometry { λ _. ⌜ now (self .exit) .geometry ≡ now (self .entry) .geometry ⌝ }
+        ensures counts { λ _. ⌜ now (self .exit) .counts ≡ now (self .entry) .counts ⌝ }
+        ensures written { λ _. ⌜ now (self .exit) .written ≡ set (now (self .entry) .written) block written ⌝ }
+        ensures tags { λ _. ⌜ at (now (self .exit) .tags) ≡ set (at (now (self .entry) .tags)) place tag ⌝ }
+        ensures bytes { λ _. ⌜ at (now (self .exit) .bytes) ≡ paste (at (now (self .entry) .bytes)) (place * length (now (bytes .entry))) (now (bytes .entry)) (length (now (bytes .entry))) ⌝ }
+    {
+        self.tags[place] = tag;
+        store(self.bytes, place * bytes.len(), bytes);
+        self.written[block as usize] = written;
+    }
+
+    /// Empties a block and counts an erase more.
+    fn wipe(&mut self, block: u16, erases: u32)
+        requires block { ⌜ block < 256 ⌝ }
+        requires erases { ⌜ erases < 2 ^ 32 - 1 ⌝ }
+        ensures geometry { λ _. ⌜ now (self .exit) .geometry ≡ now (self .entry) .geometry ⌝ }
+        ensures counts { λ _. ⌜ now (self .exit) .counts ≡ set (now (self .entry) .counts) block (erases + 1) ⌝ }
+        ensures written { λ _. ⌜ now (self .exit) .written ≡ set (now (self .entry) .written) block 0 ⌝ }
+        ensures tags { λ _. ⌜ at (now (self .exit) .tags) ≡ at (now (self .entry) .tags) ⌝ }
+        ensures bytes { λ _. ⌜ at (now (self .exit) .bytes) ≡ at (now (self .entry) .bytes) ⌝ }
+    {
+        self.counts[block as usize] = erases + 1;
+        self.written[block as usize] = 0;
+    }
+}
+
+/// Overwrites the memory from `start` on.
+fn store(memory: &mut [u8], start: usize, bytes: &[u8])
+    requires { ⌜ start + length (now bytes) ≤ length (now memory) ⌝ }
+    ensures { λ _. ⌜ now (memory .exit) ≡ paste (now (memory .entry)) start (now (bytes .entry)) (length (now (bytes .entry))) ⌝ }
+{
+    memory[start..start + bytes.len()].copy_from_slice(bytes);
+}
+
+/// Copies `size` bytes from `start` on into the buffer, or refuses a buffer of another length.
+fn copy_out(bytes: &[u8], start: usize, size: usize, buf: &mut [u8]) -> Result<(), Refusal>
+    requires { ⌜ start + size ≤ length (now bytes) ⌝ }
+    ensures answer { λ r. ⌜ r ≡ equal (length (now (buf .entry))) size WrongLength (Ok tt) ⌝ }
+    ensures buffer { λ r. ⌜ now (buf .exit) ≡ after r (take size (drop start (now (bytes .entry)))) (now (buf .entry)) ⌝ }
+{
+    if buf.len() != size {
+        return Err(Refusal::WrongLength);
+    }
+    buf.copy_from_slice(&bytes[start..start + size]);
+    Ok(())
 }
 
 /// The tag at a place. A function of its own, since its slice is known to hold numbers of 16 bits.
@@ -80,7 +151,7 @@ pub impl Chip for Emulated<'_> as EmulatedChip {
         if block >= chip.blocks {
             return Err(Refusal::Outside);
         }
-        Ok(self.counts[block as usize].min(chip.rated))
+        Ok(self.erases(block, chip.rated))
     }
 
     fn written(&self, block: u16) -> Result<u32, Refusal> {
@@ -88,7 +159,7 @@ pub impl Chip for Emulated<'_> as EmulatedChip {
         if block >= chip.blocks {
             return Err(Refusal::Outside);
         }
-        Ok(self.written[block as usize].min(chip.pages))
+        Ok(self.filled(block, chip.pages))
     }
 
     fn tag(&self, block: u16, page: u32) -> Result<u16, Refusal> {
@@ -111,13 +182,8 @@ pub impl Chip for Emulated<'_> as EmulatedChip {
         if page >= self.written[block as usize] {
             return Err(Refusal::OutOfTurn);
         }
-        if buf.len() != chip.size {
-            return Err(Refusal::WrongLength);
-        }
         let place = block as usize * chip.pages as usize + page as usize;
-        let start = place * chip.size;
-        buf.copy_from_slice(&self.bytes[start..start + chip.size]);
-        Ok(())
+        copy_out(self.bytes, place * chip.size, chip.size, buf)
     }
 
     fn program(&mut self, block: u16, page: u32, tag: u16, bytes: &[u8]) -> Result<(), Refusal> {
@@ -132,10 +198,7 @@ pub impl Chip for Emulated<'_> as EmulatedChip {
             return Err(Refusal::WrongLength);
         }
         let place = block as usize * chip.pages as usize + page as usize;
-        let start = place * chip.size;
-        self.tags[place] = tag;
-        self.bytes[start..start + chip.size].copy_from_slice(bytes);
-        self.written[block as usize] = page + 1;
+        self.put(block, place, tag, bytes, page + 1);
         Ok(())
     }
 
@@ -144,12 +207,11 @@ pub impl Chip for Emulated<'_> as EmulatedChip {
         if block >= chip.blocks {
             return Err(Refusal::Outside);
         }
-        let count = self.counts[block as usize].min(chip.rated);
-        if count >= chip.rated {
+        let erases = self.erases(block, chip.rated);
+        if erases >= chip.rated {
             return Err(Refusal::WornOut);
         }
-        self.counts[block as usize] = count + 1;
-        self.written[block as usize] = 0;
+        self.wipe(block, erases);
         Ok(())
     }
 }

@@ -8,7 +8,7 @@ use Rattle.emulated.specs.Held.{place}
 use Rattle.emulated.specs.Meaning.{emulated}
 use Rattle.emulated.specs.Laws.{Room, served-room, bytes-in}
 use Rattle.emulated.proofs.Lines.{view}
-use Rattle.emulated.proofs.Answers.{past, over, read-turn, read-size, read-in, read-bytes}
+use Rattle.emulated.proofs.Answers.{past, over, read-turn, read-in, read-bytes}
 use Rattle.emulated.proofs.EmulatedChip.read.Needs as need
 use Rattle.emulated.proofs.EmulatedChip.read.Needs.{then-block-chip·by·then-block-chip, then-block-chip·by·else-block-chip·then-page-chip}
 
@@ -37,17 +37,8 @@ returns-then-page-self c =
     let refused = read-turn (c .served-chip .result) s b i (c .if-block-chip .left) (c .if-page-chip .left) (length old) (c .if-page-self .taken) ∙ ap (λ g. read-answer (view g s) b i (length old)) (c .served-chip .ensures) in
     record { answer = refused; buffer = ap (λ a. after a (page (emulated s) b i .bytes) old) refused }
 
-pub returns-then-buf-chip : need.returns-then-buf-chip
-returns-then-buf-chip c =
-    let s = c .args .self .now in
-    let b = c .args .block in
-    let i = c .args .page in
-    let old = c .args .buf .now in
-    let refused = read-size (c .served-chip .result) s b i (c .if-block-chip .left) (c .if-page-chip .left) (length old) (c .if-page-self .left) (c .if-buf-chip .taken) ∙ ap (λ g. read-answer (view g s) b i (length old)) (c .served-chip .ensures) in
-    record { answer = refused; buffer = ap (λ a. after a (page (emulated s) b i .bytes) old) refused }
-
-pub part-copy-from-slice-end : need.part-copy-from-slice-end
-part-copy-from-slice-end c =
+pub copy-out-requires : need.copy-out-requires
+copy-out-requires c κs =
     let s = c .args .self .now in
     let r = c .served-chip .result in
     let room : Room r (length (s .tags .now)) (length (s .bytes .now)) = subst (λ g. Room g (length (s .tags .now)) (length (s .bytes .now))) (sym (c .served-chip .ensures)) (served-room (s .geometry) _ _) in
@@ -60,15 +51,10 @@ returns c =
     let i = c .args .page in
     let r = c .served-chip .result in
     let old = c .args .buf .now in
-    let start = place (r .pages) b i * r .size in
-    let long : (start + r .size) - start ≡ r .size = omega arith in
-    let obeyed = read-in r s b i (c .if-block-chip .left) (c .if-page-chip .left) (length old) (c .if-page-self .left) (c .if-buf-chip .left) ∙ ap (λ g. read-answer (view g s) b i (length old)) (c .served-chip .ensures) in
+    let told = read-in r s b i (c .if-block-chip .left) (c .if-page-chip .left) (length old) (c .if-page-self .left) ∙ ap (λ g. read-answer (view g s) b i (length old)) (c .served-chip .ensures) in
+    let there = read-bytes r s b i (c .if-block-chip .left) (c .if-page-chip .left) (c .if-page-self .left) ∙ ap (λ g. page (view g s) b i .bytes) (c .served-chip .ensures) in
+    let answer = c .copy-out .ensures .answer ∙ told in
     record {
-      answer = obeyed;
-      buffer =
-          c .copy-from-slice .ensures .after
-          ∙ ap (λ k. take k (drop start (s .bytes .now))) long
-          ∙ read-bytes r s b i (c .if-block-chip .left) (c .if-page-chip .left) (c .if-page-self .left)
-          ∙ ap (λ g. page (view g s) b i .bytes) (c .served-chip .ensures)
-          ∙ ap (λ a. after a (page (emulated s) b i .bytes) old) obeyed;
+      answer = answer;
+      buffer = c .copy-out .ensures .buffer ∙ ap (λ xs. after (c .copy-out .result) xs old) there ∙ ap (λ a. after a (page (emulated s) b i .bytes) old) answer;
     }

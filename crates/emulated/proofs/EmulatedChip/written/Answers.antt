@@ -14,4 +14,4 @@ returns-then-block-chip c =
 pub returns : need.returns
 returns c =
     let s = c .args .self .now in
-    ap (λ (k : ℕ). Ok k) (c .min .ensures) ∙ written-in (c .served-chip .result) s (c .args .block) (c .if-block-chip .left) ∙ ap (λ g. written-answer (view g s) (c .args .block)) (c .served-chip .ensures)
+    ap (λ (k : ℕ). Ok k) (c .filled .ensures) ∙ written-in (c .served-chip .result) s (c .args .block) (c .if-block-chip .left) ∙ ap (λ g. written-answer (view g s) (c .args .block)) (c .served-chip .ensures)
