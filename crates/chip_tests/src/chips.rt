@@ -1,4 +1,7 @@
-//! The emulated chip: answers, refusals, limits and memory.
+//! The emulated chip and the tools over it: answers, refusals, limits and memory.
+use crate::steps::Call;
+use crate::steps::Outcome;
+use crate::steps::run;
 use emulated::Emulated;
 use emulated::EmulatedChip;
 use flash::Chip;
@@ -6,17 +9,27 @@ use flash::Geometry;
 use flash::GeometryDebug;
 use flash::GeometryPartialEq;
 use flash::Refusal;
-use flash::RefusalDebug;
-use flash::RefusalPartialEq;
 use std::test::*;
 
-/// Three blocks of two pages of four bytes, rated for two erases.
-const SMALL: Geometry = Geometry {
-    blocks: 3,
-    pages: 2,
-    size: 4,
-    rated: 2,
-};
+/// Runs a table on a blank chip of three blocks of two pages of four bytes, rated for two erases, in memory of so many tags and bytes, that held something else before.
+fn on_a_chip(table: &[(Call, Outcome)], tags: usize, bytes: usize) -> Result<(), Fail> {
+    let mut tag_memory = [3u16; 6];
+    let mut byte_memory = [3u8; 24];
+    let tags = tags.min(6);
+    let bytes = bytes.min(24);
+    let geometry = Geometry {
+        blocks: 3,
+        pages: 2,
+        size: 4,
+        rated: 2,
+    };
+    let mut chip = Emulated::new(
+        geometry,
+        &mut tag_memory[0..tags],
+        &mut byte_memory[0..bytes],
+    );
+    run(&mut chip, table)
+}
 
 #[test]
 fn numbers() -> Result<(), Fail> {
@@ -27,167 +40,197 @@ fn numbers() -> Result<(), Fail> {
 }
 
 #[test]
-fn begins_blank() -> Result<(), Fail> {
-    // what the memory held before does not count
-    let mut tags = [9u16; 6];
-    let mut bytes = [9u8; 24];
-    let chip = Emulated::new(SMALL, &mut tags, &mut bytes);
-    check_eq(chip.geometry(), SMALL)?;
+fn questions() -> Result<(), Fail> {
+    let mut tags = [0u16; 6];
+    let mut bytes = [0u8; 24];
+    let geometry = Geometry {
+        blocks: 3,
+        pages: 2,
+        size: 4,
+        rated: 7,
+    };
+    let chip = Emulated::new(geometry, &mut tags, &mut bytes);
+    check_eq(chip.geometry(), geometry)?;
     check_eq(chip.blocks(), 3)?;
     check_eq(chip.pages(), 2)?;
     check_eq(chip.page_size(), 4)?;
-    check_eq(chip.rated(), 2)?;
-    for block in 0..3u16 {
-        check_eq(chip.count(block), Ok(0))?;
-        check_eq(chip.written(block), Ok(0))?;
-        check_eq(chip.tag(block, 0), Err(Refusal::OutOfTurn))?;
-    }
-    Ok(())
+    check_eq(chip.rated(), 7)
+}
+
+#[test]
+fn begins_blank() -> Result<(), Fail> {
+    let table = [
+        (Call::Count(0), Outcome::Is(0)),
+        (Call::Written(0), Outcome::Is(0)),
+        (Call::Tag(0, 0), Outcome::Refused(13)),
+        (Call::Read(0, 0, 4), Outcome::Refused(13)),
+        (Call::Count(2), Outcome::Is(0)),
+        (Call::Written(2), Outcome::Is(0)),
+        (Call::Tag(2, 1), Outcome::Refused(13)),
+    ];
+    on_a_chip(&table, 6, 24)
 }
 
 #[test]
 fn keeps_what_is_programmed() -> Result<(), Fail> {
-    let mut tags = [0u16; 6];
-    let mut bytes = [0u8; 24];
-    let mut chip = Emulated::new(SMALL, &mut tags, &mut bytes);
-    chip.program(1, 0, 65535, &[1, 2, 3, 4])?;
-    chip.program(1, 1, 0, &[255, 254, 253, 252])?;
-    let mut buf = [7u8; 4];
-    chip.read(1, 0, &mut buf)?;
-    check_eq(buf, [1, 2, 3, 4])?;
-    chip.read(1, 1, &mut buf)?;
-    check_eq(buf, [255, 254, 253, 252])?;
-    check_eq(chip.tag(1, 0), Ok(65535))?;
-    check_eq(chip.tag(1, 1), Ok(0))?;
-    check_eq(chip.written(1), Ok(2))
+    let table = [
+        (Call::Program(1, 0, 65535, 1, 4), Outcome::Done),
+        (Call::Program(1, 1, 0, 250, 4), Outcome::Done),
+        (Call::Read(1, 0, 4), Outcome::Holds(1)),
+        (Call::Read(1, 1, 4), Outcome::Holds(250)),
+        (Call::Tag(1, 0), Outcome::Is(65535)),
+        (Call::Tag(1, 1), Outcome::Is(0)),
+        (Call::Written(0), Outcome::Is(0)),
+        (Call::Written(2), Outcome::Is(0)),
+    ];
+    on_a_chip(&table, 6, 24)
 }
 
 #[test]
 fn full_block() -> Result<(), Fail> {
-    let mut tags = [0u16; 6];
-    let mut bytes = [0u8; 24];
-    let mut chip = Emulated::new(SMALL, &mut tags, &mut bytes);
-    check_eq(chip.program(0, 1, 5, &[5; 4]), Err(Refusal::OutOfTurn))?;
-    check_eq(chip.program(0, 0, 5, &[5; 4]), Ok(()))?;
-    check_eq(chip.program(0, 0, 6, &[6; 4]), Err(Refusal::OutOfTurn))?;
-    check_eq(chip.program(0, 1, 7, &[7; 4]), Ok(()))?;
-    check_eq(chip.program(0, 2, 8, &[8; 4]), Err(Refusal::Outside))?;
-    check_eq(chip.program(0, 1, 8, &[8; 4]), Err(Refusal::OutOfTurn))?;
-    check_eq(chip.tag(0, 0), Ok(5))?;
-    check_eq(chip.tag(0, 1), Ok(7))?;
-    check_eq(chip.written(0), Ok(2))
+    let table = [
+        (Call::Program(0, 1, 5, 5, 4), Outcome::Refused(13)),
+        (Call::Program(0, 0, 5, 5, 4), Outcome::Done),
+        (Call::Program(0, 0, 6, 6, 4), Outcome::Refused(13)),
+        (Call::Program(0, 1, 7, 7, 4), Outcome::Done),
+        (Call::Program(0, 2, 8, 8, 4), Outcome::Refused(12)),
+        (Call::Program(0, 1, 8, 8, 4), Outcome::Refused(13)),
+        (Call::Tag(0, 0), Outcome::Is(5)),
+        (Call::Tag(0, 1), Outcome::Is(7)),
+        (Call::Written(0), Outcome::Is(2)),
+    ];
+    on_a_chip(&table, 6, 24)
 }
 
 #[test]
 fn worn_block() -> Result<(), Fail> {
-    let mut tags = [0u16; 6];
-    let mut bytes = [0u8; 24];
-    let mut chip = Emulated::new(SMALL, &mut tags, &mut bytes);
-    check_eq(chip.erase(2), Ok(()))?;
-    check_eq(chip.erase(2), Ok(()))?;
     // a worn block is still programmed and read
-    check_eq(chip.program(2, 0, 4, &[4; 4]), Ok(()))?;
-    check_eq(chip.erase(2), Err(Refusal::WornOut))?;
-    check_eq(chip.count(2), Ok(2))?;
-    check_eq(chip.written(2), Ok(1))?;
-    check_eq(chip.tag(2, 0), Ok(4))?;
-    check_eq(chip.erase(1), Ok(()))
+    let table = [
+        (Call::Erase(2), Outcome::Done),
+        (Call::Erase(2), Outcome::Done),
+        (Call::Program(2, 0, 4, 4, 4), Outcome::Done),
+        (Call::Erase(2), Outcome::Refused(15)),
+        (Call::Count(2), Outcome::Is(2)),
+        (Call::Written(2), Outcome::Is(1)),
+        (Call::Read(2, 0, 4), Outcome::Holds(4)),
+        (Call::Erase(1), Outcome::Done),
+    ];
+    on_a_chip(&table, 6, 24)
 }
 
 #[test]
-fn erase_leaves_the_neighbours() -> Result<(), Fail> {
-    let mut tags = [0u16; 6];
-    let mut bytes = [0u8; 24];
-    let mut chip = Emulated::new(SMALL, &mut tags, &mut bytes);
-    for block in 0..3u16 {
-        chip.program(block, 0, block, &[block as u8; 4])?;
-    }
-    chip.erase(1)?;
-    check_eq(chip.written(0), Ok(1))?;
-    check_eq(chip.written(1), Ok(0))?;
-    check_eq(chip.written(2), Ok(1))?;
-    check_eq(chip.count(0), Ok(0))?;
-    check_eq(chip.count(1), Ok(1))?;
-    check_eq(chip.count(2), Ok(0))?;
-    let mut buf = [9u8; 4];
-    check_eq(chip.read(1, 0, &mut buf), Err(Refusal::OutOfTurn))?;
-    check_eq(buf, [9; 4])?;
-    chip.read(0, 0, &mut buf)?;
-    check_eq(buf, [0; 4])?;
-    chip.read(2, 0, &mut buf)?;
-    check_eq(buf, [2; 4])
+fn an_erase_leaves_the_neighbours() -> Result<(), Fail> {
+    let table = [
+        (Call::Program(0, 0, 10, 10, 4), Outcome::Done),
+        (Call::Program(1, 0, 20, 20, 4), Outcome::Done),
+        (Call::Program(2, 0, 30, 30, 4), Outcome::Done),
+        (Call::Erase(1), Outcome::Done),
+        (Call::Count(0), Outcome::Is(0)),
+        (Call::Count(1), Outcome::Is(1)),
+        (Call::Count(2), Outcome::Is(0)),
+        (Call::Read(0, 0, 4), Outcome::Holds(10)),
+        (Call::Read(1, 0, 4), Outcome::Refused(13)),
+        (Call::Read(2, 0, 4), Outcome::Holds(30)),
+        (Call::Tag(2, 0), Outcome::Is(30)),
+    ];
+    on_a_chip(&table, 6, 24)
 }
 
 #[test]
-fn last_page_of_the_last_block() -> Result<(), Fail> {
-    let mut tags = [0u16; 6];
-    let mut bytes = [0u8; 24];
-    let mut chip = Emulated::new(SMALL, &mut tags, &mut bytes);
-    chip.program(2, 0, 1, &[1; 4])?;
-    check_eq(chip.program(2, 1, 2, &[2; 4]), Ok(()))?;
-    check_eq(chip.tag(2, 1), Ok(2))?;
-    check_eq(chip.tag(2, 2), Err(Refusal::Outside))?;
-    check_eq(chip.tag(3, 0), Err(Refusal::Outside))?;
-    check_eq(chip.program(3, 0, 3, &[3; 4]), Err(Refusal::Outside))?;
-    check_eq(chip.count(3), Err(Refusal::Outside))?;
-    check_eq(chip.written(3), Err(Refusal::Outside))?;
-    check_eq(chip.erase(3), Err(Refusal::Outside))?;
-    let mut buf = [9u8; 4];
-    check_eq(chip.read(2, 2, &mut buf), Err(Refusal::Outside))?;
-    check_eq(chip.read(3, 0, &mut buf), Err(Refusal::Outside))?;
-    check_eq(buf, [9; 4])?;
-    chip.read(2, 1, &mut buf)?;
-    check_eq(buf, [2; 4])
+fn the_last_page_of_the_last_block() -> Result<(), Fail> {
+    let table = [
+        (Call::Program(2, 0, 1, 1, 4), Outcome::Done),
+        (Call::Program(2, 1, 2, 2, 4), Outcome::Done),
+        (Call::Tag(2, 1), Outcome::Is(2)),
+        (Call::Read(2, 1, 4), Outcome::Holds(2)),
+        (Call::Tag(2, 2), Outcome::Refused(12)),
+        (Call::Read(2, 2, 4), Outcome::Refused(12)),
+        (Call::Count(3), Outcome::Refused(12)),
+        (Call::Written(3), Outcome::Refused(12)),
+        (Call::Tag(3, 0), Outcome::Refused(12)),
+        (Call::Read(3, 0, 4), Outcome::Refused(12)),
+        (Call::Program(3, 0, 3, 3, 4), Outcome::Refused(12)),
+        (Call::Erase(3), Outcome::Refused(12)),
+    ];
+    on_a_chip(&table, 6, 24)
 }
 
 #[test]
 fn lengths() -> Result<(), Fail> {
-    let mut tags = [0u16; 6];
-    let mut bytes = [0u8; 24];
-    let mut chip = Emulated::new(SMALL, &mut tags, &mut bytes);
-    check_eq(chip.program(0, 0, 1, &[1; 3]), Err(Refusal::WrongLength))?;
-    check_eq(chip.program(0, 0, 1, &[1; 5]), Err(Refusal::WrongLength))?;
-    check_eq(chip.written(0), Ok(0))?;
-    chip.program(0, 0, 1, &[1; 4])?;
-    let mut short = [9u8; 3];
-    check_eq(chip.read(0, 0, &mut short), Err(Refusal::WrongLength))?;
-    check_eq(short, [9; 3])?;
-    let mut long = [9u8; 5];
-    check_eq(chip.read(0, 0, &mut long), Err(Refusal::WrongLength))?;
-    check_eq(long, [9; 5])
-}
-
-#[test]
-fn the_lowest_number_is_answered() -> Result<(), Fail> {
-    let mut tags = [0u16; 6];
-    let mut bytes = [0u8; 24];
-    let mut chip = Emulated::new(SMALL, &mut tags, &mut bytes);
-    let mut short = [9u8; 3];
-    // outside and too short, out of turn and too short
-    check_eq(chip.read(3, 0, &mut short), Err(Refusal::Outside))?;
-    check_eq(chip.read(0, 1, &mut short), Err(Refusal::OutOfTurn))?;
-    check_eq(chip.program(0, 2, 1, &short), Err(Refusal::Outside))?;
-    check_eq(chip.program(0, 1, 1, &short), Err(Refusal::OutOfTurn))
+    let table = [
+        (Call::Program(0, 0, 1, 1, 3), Outcome::Refused(14)),
+        (Call::Program(0, 0, 1, 1, 5), Outcome::Refused(14)),
+        (Call::Written(0), Outcome::Is(0)),
+        (Call::Program(0, 0, 1, 1, 4), Outcome::Done),
+        (Call::Read(0, 0, 3), Outcome::Refused(14)),
+        (Call::Read(0, 0, 5), Outcome::Refused(14)),
+        // the lowest number is answered
+        (Call::Read(3, 0, 3), Outcome::Refused(12)),
+        (Call::Read(0, 1, 3), Outcome::Refused(13)),
+        (Call::Program(0, 2, 1, 1, 3), Outcome::Refused(12)),
+        (Call::Program(0, 0, 1, 1, 3), Outcome::Refused(13)),
+    ];
+    on_a_chip(&table, 6, 24)
 }
 
 #[test]
 fn a_byte_or_a_tag_short() -> Result<(), Fail> {
-    let mut tags = [0u16; 6];
-    let mut bytes = [0u8; 24];
-    let mut few_tags = [0u16; 5];
-    let mut few_bytes = [0u8; 23];
-    let mut buf = [9u8; 4];
-    let mut chip = Emulated::new(SMALL, &mut tags, &mut few_bytes);
-    check_eq(chip.geometry(), Geometry::none())?;
-    check_eq(chip.count(0), Err(Refusal::Outside))?;
-    check_eq(chip.written(0), Err(Refusal::Outside))?;
-    check_eq(chip.tag(0, 0), Err(Refusal::Outside))?;
-    check_eq(chip.read(0, 0, &mut buf), Err(Refusal::Outside))?;
-    check_eq(chip.program(0, 0, 1, &buf), Err(Refusal::Outside))?;
-    check_eq(chip.erase(0), Err(Refusal::Outside))?;
-    check_eq(buf, [9; 4])?;
-    check_eq(Emulated::new(SMALL, &mut few_tags, &mut bytes).blocks(), 0)?;
-    check_eq(Emulated::new(SMALL, &mut tags, &mut bytes).blocks(), 3)
+    let table = [
+        (Call::Count(0), Outcome::Refused(12)),
+        (Call::Written(0), Outcome::Refused(12)),
+        (Call::Tag(0, 0), Outcome::Refused(12)),
+        (Call::Read(0, 0, 4), Outcome::Refused(12)),
+        (Call::Program(0, 0, 1, 1, 4), Outcome::Refused(12)),
+        (Call::Erase(0), Outcome::Refused(12)),
+    ];
+    on_a_chip(&table, 6, 23)?;
+    on_a_chip(&table, 5, 24)
+}
+
+#[test]
+fn copies() -> Result<(), Fail> {
+    let table = [
+        (Call::Program(0, 0, 70, 70, 4), Outcome::Done),
+        (Call::Program(0, 1, 71, 75, 4), Outcome::Done),
+        (Call::Copy(0, 1, 2, 4), Outcome::Holds(75)),
+        (Call::Copy(0, 0, 2, 4), Outcome::Holds(70)),
+        (Call::Tag(2, 0), Outcome::Is(71)),
+        (Call::Tag(2, 1), Outcome::Is(70)),
+        (Call::Read(2, 1, 4), Outcome::Holds(70)),
+        // full, no such block, no such page, unwritten, too short
+        (Call::Copy(0, 0, 2, 4), Outcome::Refused(12)),
+        (Call::Copy(0, 0, 3, 4), Outcome::Refused(12)),
+        (Call::Copy(3, 0, 1, 4), Outcome::Refused(12)),
+        (Call::Copy(0, 2, 1, 4), Outcome::Refused(12)),
+        (Call::Copy(1, 0, 1, 4), Outcome::Refused(13)),
+        (Call::Copy(0, 0, 1, 3), Outcome::Refused(14)),
+        (Call::Written(1), Outcome::Is(0)),
+    ];
+    on_a_chip(&table, 6, 24)
+}
+
+#[test]
+fn moves() -> Result<(), Fail> {
+    let table = [
+        (Call::Program(2, 0, 70, 70, 4), Outcome::Done),
+        (Call::Program(2, 1, 71, 75, 4), Outcome::Done),
+        (Call::Move(2, 0, 4), Outcome::Holds(75)),
+        (Call::Tag(0, 0), Outcome::Is(70)),
+        (Call::Tag(0, 1), Outcome::Is(71)),
+        (Call::Written(2), Outcome::Is(0)),
+        (Call::Count(2), Outcome::Is(1)),
+        (Call::Count(0), Outcome::Is(0)),
+        // no such block, not blank, itself, too short, worn out
+        (Call::Move(3, 2, 4), Outcome::Refused(12)),
+        (Call::Move(0, 3, 4), Outcome::Refused(12)),
+        (Call::Move(2, 0, 4), Outcome::Refused(13)),
+        (Call::Move(0, 0, 4), Outcome::Refused(13)),
+        (Call::Move(0, 1, 3), Outcome::Refused(14)),
+        (Call::Erase(2), Outcome::Done),
+        (Call::Move(2, 1, 4), Outcome::Refused(15)),
+        (Call::Written(1), Outcome::Is(0)),
+    ];
+    on_a_chip(&table, 6, 24)
 }
 
 /// N, P, D and E of a chip that has memory enough.

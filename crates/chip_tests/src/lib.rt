@@ -4,4 +4,4 @@ mod chips;
 #[cfg(test)]
 mod pairs;
 #[cfg(test)]
-mod tool_box;
+mod steps;

@@ -1,14 +1,13 @@
 //! Pairs, and pairs of pairs.
+use crate::steps::Call;
+use crate::steps::Outcome;
+use crate::steps::run;
 use emulated::Emulated;
 use emulated::EmulatedChip;
 use flash::Chip;
 use flash::Geometry;
 use flash::GeometryDebug;
 use flash::GeometryPartialEq;
-use flash::Refusal;
-use flash::RefusalDebug;
-use flash::RefusalPartialEq;
-use flash::tools::relocate;
 use pair::Pair;
 use pair::PairChip;
 use std::test::*;
@@ -29,8 +28,8 @@ const LARGER: Geometry = Geometry {
     rated: 3,
 };
 
-/// The pair of a chip of two blocks and one of the geometry handed in.
-fn with(other: Geometry) -> Geometry {
+/// N, P, D and E of the pair of a chip of two blocks and one of the geometry handed in.
+fn joined_with(other: Geometry) -> Geometry {
     let mut tags = [0u16; 4];
     let mut bytes = [0u8; 4];
     let mut more_tags = [0u16; 40];
@@ -43,7 +42,7 @@ fn with(other: Geometry) -> Geometry {
 #[test]
 fn common_numbers() -> Result<(), Fail> {
     check_eq(
-        with(LARGER),
+        joined_with(LARGER),
         Geometry {
             blocks: 5,
             pages: 2,
@@ -52,7 +51,7 @@ fn common_numbers() -> Result<(), Fail> {
         },
     )?;
     check_eq(
-        with(Geometry {
+        joined_with(Geometry {
             blocks: 3,
             pages: 3,
             size: 1,
@@ -61,7 +60,7 @@ fn common_numbers() -> Result<(), Fail> {
         Geometry::none(),
     )?;
     check_eq(
-        with(Geometry {
+        joined_with(Geometry {
             blocks: 3,
             pages: 2,
             size: 2,
@@ -70,7 +69,7 @@ fn common_numbers() -> Result<(), Fail> {
         Geometry::none(),
     )?;
     check_eq(
-        with(Geometry {
+        joined_with(Geometry {
             blocks: 3,
             pages: 2,
             size: 1,
@@ -79,85 +78,86 @@ fn common_numbers() -> Result<(), Fail> {
         Geometry::none(),
     )?;
     // a chip that is not there has another P, D and E
-    check_eq(with(Geometry::none()), Geometry::none())
+    check_eq(joined_with(Geometry::none()), Geometry::none())
+}
+
+/// Runs a table on the pair of a chip of two blocks and one of the geometry handed in.
+fn on_a_pair(other: Geometry, table: &[(Call, Outcome)]) -> Result<(), Fail> {
+    let mut tags = [0u16; 4];
+    let mut bytes = [0u8; 4];
+    let mut more_tags = [0u16; 40];
+    let mut more_bytes = [0u8; 40];
+    let first = Emulated::new(TINY, &mut tags, &mut bytes);
+    let second = Emulated::new(other, &mut more_tags, &mut more_bytes);
+    run(&mut Pair::new(first, second), table)
 }
 
 #[test]
 fn chips_that_do_not_join() -> Result<(), Fail> {
-    let mut tags = [0u16; 4];
-    let mut bytes = [0u8; 4];
-    let mut more_tags = [0u16; 6];
-    let mut more_bytes = [0u8; 12];
-    let first = Emulated::new(TINY, &mut tags, &mut bytes);
-    let second = Emulated::new(
+    let table = [
+        (Call::Count(0), Outcome::Refused(12)),
+        (Call::Written(0), Outcome::Refused(12)),
+        (Call::Tag(0, 0), Outcome::Refused(12)),
+        (Call::Read(0, 0, 1), Outcome::Refused(12)),
+        (Call::Program(0, 0, 1, 1, 1), Outcome::Refused(12)),
+        (Call::Erase(0), Outcome::Refused(12)),
+    ];
+    on_a_pair(
         Geometry {
             blocks: 3,
             pages: 2,
             size: 2,
             rated: 3,
         },
-        &mut more_tags,
-        &mut more_bytes,
-    );
-    let mut both = Pair::new(first, second);
-    let mut buf = [9u8; 1];
-    check_eq(both.count(0), Err(Refusal::Outside))?;
-    check_eq(both.written(0), Err(Refusal::Outside))?;
-    check_eq(both.tag(0, 0), Err(Refusal::Outside))?;
-    check_eq(both.read(0, 0, &mut buf), Err(Refusal::Outside))?;
-    check_eq(both.program(0, 0, 1, &[1]), Err(Refusal::Outside))?;
-    check_eq(both.erase(0), Err(Refusal::Outside))?;
-    check_eq(buf, [9])
+        &table,
+    )
 }
 
 #[test]
 fn the_first_and_then_the_second() -> Result<(), Fail> {
-    let mut tags = [0u16; 4];
-    let mut bytes = [0u8; 4];
-    let mut more_tags = [0u16; 6];
-    let mut more_bytes = [0u8; 6];
-    let mut first = Emulated::new(TINY, &mut tags, &mut bytes);
-    let mut second = Emulated::new(LARGER, &mut more_tags, &mut more_bytes);
-    first.program(1, 0, 10, &[10])?;
-    second.program(0, 0, 20, &[20])?;
-    second.erase(2)?;
-    let mut both = Pair::new(first, second);
-    check_eq(both.tag(1, 0), Ok(10))?;
-    check_eq(both.tag(2, 0), Ok(20))?;
-    check_eq(both.count(4), Ok(1))?;
-    check_eq(both.count(5), Err(Refusal::Outside))?;
-    check_eq(both.program(2, 1, 21, &[21]), Ok(()))?;
-    check_eq(both.program(4, 1, 21, &[21]), Err(Refusal::OutOfTurn))?;
-    check_eq(both.written(0), Ok(0))?;
-    check_eq(both.written(2), Ok(2))?;
-    check_eq(both.erase(1), Ok(()))?;
-    check_eq(both.count(1), Ok(1))?;
-    check_eq(both.count(3), Ok(0))
+    let table = [
+        (Call::Program(1, 0, 10, 10, 1), Outcome::Done),
+        (Call::Program(2, 0, 20, 20, 1), Outcome::Done),
+        (Call::Erase(4), Outcome::Done),
+        (Call::Tag(1, 0), Outcome::Is(10)),
+        (Call::Read(2, 0, 1), Outcome::Holds(20)),
+        (Call::Read(2, 0, 2), Outcome::Refused(14)),
+        (Call::Written(0), Outcome::Is(0)),
+        (Call::Written(3), Outcome::Is(0)),
+        (Call::Count(4), Outcome::Is(1)),
+        (Call::Count(2), Outcome::Is(0)),
+        (Call::Count(5), Outcome::Refused(12)),
+        (Call::Program(4, 1, 21, 21, 1), Outcome::Refused(13)),
+        (Call::Copy(1, 0, 4, 1), Outcome::Holds(10)),
+        (Call::Tag(4, 0), Outcome::Is(10)),
+        (Call::Move(2, 0, 1), Outcome::Holds(20)),
+        (Call::Tag(0, 0), Outcome::Is(20)),
+    ];
+    on_a_pair(LARGER, &table)
 }
 
 #[test]
 fn a_pair_of_a_pair() -> Result<(), Fail> {
+    let table = [
+        (Call::Program(4, 0, 40, 4, 1), Outcome::Done),
+        (Call::Program(4, 1, 41, 5, 1), Outcome::Done),
+        (Call::Move(4, 6, 1), Outcome::Holds(5)),
+        (Call::Tag(6, 0), Outcome::Is(40)),
+        (Call::Tag(6, 1), Outcome::Is(41)),
+        (Call::Count(4), Outcome::Is(1)),
+        (Call::Written(4), Outcome::Is(0)),
+        (Call::Erase(7), Outcome::Refused(12)),
+    ];
     let mut tags = [0u16; 4];
     let mut bytes = [0u8; 4];
     let mut more_tags = [0u16; 6];
     let mut more_bytes = [0u8; 6];
     let mut last_tags = [0u16; 4];
     let mut last_bytes = [0u8; 4];
-    let inner = Pair::new(
-        Emulated::new(TINY, &mut tags, &mut bytes),
-        Emulated::new(LARGER, &mut more_tags, &mut more_bytes),
-    );
-    let mut all = Pair::new(inner, Emulated::new(TINY, &mut last_tags, &mut last_bytes));
+    let first = Emulated::new(TINY, &mut tags, &mut bytes);
+    let second = Emulated::new(LARGER, &mut more_tags, &mut more_bytes);
+    let third = Emulated::new(TINY, &mut last_tags, &mut last_bytes);
+    let mut all = Pair::new(Pair::new(first, second), third);
     check_eq(all.blocks(), 7)?;
-    all.program(4, 0, 40, &[4])?;
-    all.program(4, 1, 41, &[5])?;
-    let mut buf = [0u8; 1];
-    check_eq(relocate(&mut all, 4, 6, &mut buf), Ok(()))?;
-    check_eq(all.tag(6, 0), Ok(40))?;
-    check_eq(all.tag(6, 1), Ok(41))?;
-    check_eq(all.count(4), Ok(1))?;
-    check_eq(all.written(4), Ok(0))?;
-    all.read(6, 0, &mut buf)?;
-    check_eq(buf, [4])?;
-    check_eq(all.erase(7), Err(Refusal::Outside))
+    run(&mut all, &table)
 }
