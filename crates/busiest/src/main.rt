@@ -63,7 +63,8 @@ fn count_all(
     Ok(None)
 }
 
-fn main(rt: LibcRuntime) -> io::Result<()> {
+/// Tells the busiest pages of standard input.
+fn run(rt: &LibcRuntime) -> io::Result<()> {
     let mut nodes = vec![in rt.alloc(); Node::new(PageRecord {
         number: 0,
         writes: 0
@@ -78,4 +79,8 @@ fn main(rt: LibcRuntime) -> io::Result<()> {
         out.write_all(busy_line(record.number, record.writes).as_slice())?;
     }
     out.flush()
+}
+
+fn main(rt: LibcRuntime) -> io::Result<()> {
+    rt.report(run(&rt))
 }

@@ -23,9 +23,8 @@ fn list(reader: &mut Reader, piece: &[u8], out: &mut BufWriter<Stdout>) -> io::R
     Ok(true)
 }
 
-fn main(rt: LibcRuntime) -> io::Result<()> {
-    let mut input = rt.stdin();
-    let mut out = BufWriter::new(rt.stdout());
+/// Lists the whole input. Where it cannot be read on, what was read before is listed first.
+fn list_all(input: &mut impl Read, out: &mut BufWriter<Stdout>) -> io::Result<()> {
     let mut reader = Reader::new();
     let mut piece = [0u8; 65536];
     for _ in 0..u64::MAX {
@@ -33,14 +32,21 @@ fn main(rt: LibcRuntime) -> io::Result<()> {
         if n == 0 {
             break;
         }
-        if !list(&mut reader, &piece[0..n], &mut out)? {
-            return out.flush();
+        if !list(&mut reader, &piece[0..n], out)? {
+            return Ok(());
         }
     }
     match reader.finish() {
-        Ok(Some(frame)) => out.write_all(frame_line(&frame).as_slice())?,
-        Ok(None) => {}
-        Err(fault) => out.write_all(fault_line(&fault).as_slice())?,
+        Ok(Some(frame)) => out.write_all(frame_line(&frame).as_slice()),
+        Ok(None) => Ok(()),
+        Err(fault) => out.write_all(fault_line(&fault).as_slice()),
     }
-    out.flush()
+}
+
+fn main(rt: LibcRuntime) -> io::Result<()> {
+    let mut out = BufWriter::new(rt.stdout());
+    let listed = list_all(&mut rt.stdin(), &mut out);
+    let written = out.flush();
+    rt.report(listed)?;
+    rt.report(written)
 }
