@@ -4,4 +4,7 @@ pub mod Blocks
 pub mod Steps
 pub mod Levelling
 pub mod Calls
+pub mod WellFormed
+pub mod Obeyed
+pub mod Laws
 pub mod Worked

@@ -59,6 +59,10 @@ pub record Outcome (T : Type 0) : Type 0 where
   pub buffer : List ℕ
   pub operations : List Op
 
+-- The leveller that a call leaves.
+abbrev pub left : {T : Type 0} → Outcome T → Leveller
+left o = record { tables = o .tables; chip = o .chip }
+
 -- At the beginning of a call nothing was done yet.
 abbrev pub begin : Tables → Flash → State
 begin x f = record { chip = f; places = x .places; uses = x .uses; marks = x .marks; meter = x .meter; log = [] }

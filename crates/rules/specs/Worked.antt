@@ -22,7 +22,7 @@ use Rattle.rules.specs.declared.Use.the-variants.{Free, Open, Closed}
 use Rattle.rules.specs.declared.Written.{Written}
 use Rattle.rules.specs.declared.Refusal.{Refusal}
 use Rattle.rules.specs.declared.Refusal.the-variants.{AlreadyStarted, OutsideLimits, UnevenSets, WrongThreshold, WrongLogical, NotBlank, NotStarted, NoSuchPage, WrongLength, WornOut, Empty}
-use Rattle.rules.specs.Tables.{Meter, Tables, Leveller, Outcome}
+use Rattle.rules.specs.Tables.{Meter, Tables, Leveller, Outcome, left}
 use Rattle.rules.specs.Blocks.{BlockOrder}
 use Rattle.rules.specs.Calls.{start, write, read, discard}
 
@@ -36,9 +36,6 @@ over f = record { tables = None; chip = f }
 
 abbrev pub settings : (k t l : ℕ) → Settings
 settings k t l = record { k = k; threshold = t; logical = l }
-
-abbrev pub left : {T : Type 0} → Outcome T → Leveller
-left o = record { tables = o .tables; chip = o .chip }
 
 unfoldable pub started : Flash → Settings → Leveller
 started f g = left (start (over f) g)

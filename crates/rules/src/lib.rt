@@ -5,6 +5,7 @@
 ghost use mathlib.Core.Path.{_≡_};
 ghost use Rattle.rules.specs.Refusals.{number-of};
 
+pub mod laws;
 pub mod worked;
 
 /// What a leveller is started with: block sets of 2^k neighbouring blocks, T erases to a flag before
