@@ -26,7 +26,7 @@ use Rattle.rules.specs.Levelling.{set-blocks, clear-out, collect-block, collec
 use Rattle.rules.specs.WellFormed.{ones, busy}
 use Rattle.rules.proofs.Words.{held, counted, Busy, SomeFree, Freed, Sized, Ready, Between}
 
-count-set : (bs : List Block) (b x : ℕ) (c : Block) → c .count ≡ getD bs b no-block .count → getD (set bs b c) x no-block .count ≡ getD bs x no-block .count
+pub count-set : (bs : List Block) (b x : ℕ) (c : Block) → c .count ≡ getD bs b no-block .count → getD (set bs b c) x no-block .count ≡ getD bs x no-block .count
 count-set [] b x c e = refl
 count-set (y ∷ ys) zero zero c e = e
 count-set (y ∷ ys) zero (suc x) c e = refl

@@ -26,11 +26,11 @@ use Rattle.rules.specs.Blocks.{BlockOrder}
 use Rattle.rules.specs.Calls.{refusal, refused, unless, sets-fit, threshold-fits, logical-fits, is-some, some-block, has-written, is-worn, start-checks, write-checks, read-checks, discard-checks, fresh-tables, forgotten, writing, write-done, read-at, start, write, read, discard}
 use Rattle.rules.specs.WellFormed.{Fitting, WellFormed, Kept, Sound}
 use Rattle.rules.specs.Obeyed.{obeyed}
-use Rattle.rules.specs.Laws.{VictimOrder, Start-keeps, Write-keeps, Read-keeps, Discard-keeps, Write-obeyed, Write-once, Search-ends, Levelling-ends}
+use Rattle.rules.specs.Laws.{VictimOrder, times-erased, New-sound, Cleaning-gains, Start-keeps, Write-keeps, Read-keeps, Discard-keeps, Write-obeyed, Write-once, Search-ends, Levelling-ends}
 use Rattle.rules.proofs.Flags.{true-is-not-false, seek-clear}
 use Rattle.rules.proofs.Levels.{ones-none}
 use Rattle.rules.proofs.Fits.{InNumbers, in-numbers, sets-whole, none-passes, size-pred}
-use Rattle.rules.proofs.Wrote.{Wrote, wrote, grown, ends, wrote-well, wrote-fits, wrote-obeyed}
+use Rattle.rules.proofs.Wrote.{Wrote, wrote, ends, wrote-well, wrote-fits, wrote-obeyed, wrote-once, cleaning}
 
 -- an outcome is either the refusal or what is done where no check is true
 unless-cases : {T : Type 0} (P : Outcome T → Type 0) (cs : List (Bool × Refusal)) (l : Leveller) (buffer : List ℕ) (done : Outcome T)
@@ -96,12 +96,16 @@ write-obeyed r vo l t bytes h = go (l .tables) (h .kept)
 
 pub write-once : Write-once
 unfolding write
-write-once r l t bytes h b = go (l .tables) (h .kept)
+write-once r vo l t bytes h b = go (l .tables) (h .kept)
   where
-    go : (o : Option Tables) → Kept o (l .chip) → block (write-by r l t bytes o .chip) b .count ≤ suc (block (l .chip) b .count)
+    go : (o : Option Tables) → Kept o (l .chip) → times-erased b (write-by r l t bytes o .operations) ≤ 1
     go None k = omega arith
-    go (Some x) k = unless-cases (λ o. block (o .chip) b .count ≤ suc (block (l .chip) b .count)) (write-checks (x .settings) (l .chip) t bytes) l bytes (write-done (x .settings) bytes (writing (x .settings) r t bytes (begin x (l .chip)))) (λ e. omega arith)
-        (λ q. grown r x (l .chip) k t bytes b .1)
+    go (Some x) k = unless-cases (λ o. times-erased b (o .operations) ≤ 1) (write-checks (x .settings) (l .chip) t bytes) l bytes (write-done (x .settings) bytes (writing (x .settings) r t bytes (begin x (l .chip)))) (λ e. omega arith)
+        (λ q. let a = write-accepted (x .settings) (l .chip) t bytes q in
+        wrote-once x (l .chip) k (h .chip-fits) (writing (x .settings) r t bytes (begin x (l .chip))) (wrote r x (l .chip) k t bytes vo (h .chip-fits) (a .0) (a .1)) b)
+
+pub cleaning-gains : Cleaning-gains
+cleaning-gains r vo x f c k d e = cleaning r vo x f c k d e
 
 -- read
 pub read-keeps : Read-keeps
@@ -163,6 +167,10 @@ discard-keeps l t h = go (l .tables) (h .kept)
     ]))
     go None k = same l h
     go (Some x) k = unless-cases (λ o. Sound (left o)) (discard-checks x t) l [] (record { answer = Ok tt; tables = Some (forgotten t x); chip = l .chip; buffer = []; operations = [] }) (λ e. same l h) (λ q. record { chip-fits = h .chip-fits; kept = forgotten-well x (l .chip) t k })
+
+-- a new leveller
+pub new-sound : New-sound
+new-sound f c = record { chip-fits = c; kept = tt }
 
 -- start
 replicate-at : {X : Type 0} (n b : ℕ) (v : X) → getD (replicate n v) b v ≡ v

@@ -2,17 +2,21 @@
 use mathlib.Core.Path.{_≡_, refl, sym, ap, _∙_, subst}
 use mathlib.Core.Bool.{Bool, true, false, cond}
 use mathlib.Core.List.{List, [], _∷_, _++_}
-use Prim.Native.Nat.{ℕ, zero, suc, _≤_, _<_}
+use mathlib.Core.Logic.{_⊎_, inl, inr}
+use Prim.Native.Nat.{ℕ, zero, suc, _+_, _≤_, _<_}
 use native.Mathlib.Omega.{arith}
+use lib.Dec.{eqb}
 use lib.ListN.{length, getD, set}
 use Rattle.std.specs.declared.option.Option.{Option}
 use Rattle.std.specs.declared.option.Option.the-variants.{Some, None}
 use Rattle.std.specs.declared.result.Result.the-variants.{Ok, Err}
-use Rattle.std.proofs.shelf.Lists.{length-set, getD-set-same}
-use Rattle.std.proofs.shelf.Tests.{lt-ltb, eq-eqb}
+use Rattle.std.proofs.shelf.Lists.{length-set, getD-set-same, getD-set-other}
+use Rattle.std.proofs.shelf.Tests.{cases-eq, lt-ltb, eq-eqb, ne-eqb}
 use Rattle.flash.specs.Meaning.{Flash, Block, Page, Op, program, erase, block, no-block, apply, programmed, erased}
 use Rattle.flash.specs.Calls.{program-answer, erase-answer}
+use Rattle.rules.specs.Laws.{times-erased}
 use Rattle.rules.specs.Obeyed.{if-accepted, asked, obeyed}
+use Rattle.rules.proofs.Frame.{count-set}
 
 -- what a chip asks, but for its worn blocks: n blocks of p pages of d bytes
 abbrev pub Fit : ℕ → ℕ → ℕ → Op → Flash → Type 0
@@ -94,3 +98,23 @@ own-shape f = record { blocks-are = refl; p-is = refl; d-is = refl; e-is = refl 
 
 pub runs-p : (n p d : ℕ) (os : List Op) (f h : Flash) → Runs n p d os f h → f .p ≡ h .p
 runs-p n p d os f h r = sym (runs-shaped n p d (length (f .blocks)) (f .p) (f .d) (f .e) os f h r (own-shape f) .p-is)
+
+-- a block's count grows by the times that it is erased
+pub runs-times : (n p d : ℕ) (os : List Op) (f h : Flash) → length (f .blocks) ≡ n → Runs n p d os f h → (b : ℕ) → countAt f b + times-erased b os ≡ countAt h b
+runs-times n p d [] f h l r b = omega (arith, ap (λ z. countAt z b) r)
+runs-times n p d (program c q ∷ os) f h l r b =
+    omega (arith, runs-times n p d os (programmed f c q) h (length-set (f .blocks) c _ ∙ l) (r .1) b, count-set (f .blocks) c b (record { count = countAt f c; pages = block f c .pages ++ q ∷ [] }) refl)
+runs-times n p d (erase c ∷ os) f h l r b = go (runs-times n p d os (erased f c) h (length-set (f .blocks) c _ ∙ l) (r .1) b) (cases-eq c b)
+  where
+    own : countAt (erased f c) c ≡ suc (countAt f c)
+    own = ap (λ (y : Block). y .count) (getD-set-same (f .blocks) c _ no-block (omega (arith, r .0)))
+
+    go : countAt (erased f c) b + times-erased b os ≡ countAt h b → (c ≡ b) ⊎ (c ≡ b → ⊥) → countAt f b + cond (eqb c b) (suc (times-erased b os)) (times-erased b os) ≡ countAt h b
+    go rec (inl e) =
+        let t = cond-true (eqb c b) (suc (times-erased b os)) (times-erased b os) (eq-eqb c b e) in
+        let o : countAt (erased f c) b ≡ suc (countAt f b) = subst (λ y. countAt (erased f c) y ≡ suc (countAt f y)) e own in
+        omega (arith, t, o)
+    go rec (inr e) =
+        let t : cond (eqb c b) (suc (times-erased b os)) (times-erased b os) ≡ times-erased b os = ap (λ v. cond v (suc (times-erased b os)) (times-erased b os)) (ne-eqb c b e) in
+        let o : countAt (erased f c) b ≡ countAt f b = ap (λ (y : Block). y .count) (getD-set-other (f .blocks) c b _ no-block (λ z. e (sym z))) in
+        omega (arith, t, o)

@@ -11,7 +11,7 @@ use Rattle.std.specs.shelf.Lists.{All}
 use Rattle.std.specs.declared.option.Option.{Option}
 use Rattle.std.specs.declared.option.Option.the-variants.{Some, None}
 use Rattle.std.proofs.shelf.Lists.{length-set}
-use Rattle.std.proofs.shelf.Tests.{cases-lt, ltb-true}
+use Rattle.std.proofs.shelf.Tests.{cases-eq, cases-lt, ltb-true}
 use Rattle.orders.specs.declared.block.BlockRecord.{BlockRecord}
 use Rattle.orders.specs.Ranks.{least-erased}
 use Rattle.flash.specs.Meaning.{Flash, Page, Block, Op, program, erase, no-block, no-page}
@@ -20,13 +20,13 @@ use Rattle.rules.specs.declared.Place.{Place}
 use Rattle.rules.specs.declared.Use.{Use}
 use Rattle.rules.specs.declared.Use.the-variants.{Free, Open, Closed}
 use Rattle.rules.specs.Tables.{Meter, State, set-size}
-use Rattle.rules.specs.Blocks.{BlockOrder, same-use, blocks-in, names, live-from, live-pages, record-of, better, first, first-free, head-of}
+use Rattle.rules.specs.Blocks.{BlockOrder, same-use, blocks-in, names, live-from, live-pages, record-of, records, better, first, first-free, head-of}
 use Rattle.rules.specs.Steps.{use-block, program-page, count-erase, erase-block, copy, move, clean, close-open, open-first, open-next, has-room, make-room, store}
 use Rattle.rules.specs.Levelling.{set-blocks, clear-out, collect-block, collect, next, seek, sought, turn-to, end-round, even, collect-next, level-in}
 use Rattle.rules.specs.WellFormed.{ones, busy}
 use Rattle.rules.proofs.Words.{held, counted, Busy, SomeFree, Freed, Sized, Ready, Between}
 use Rattle.rules.proofs.Frame.{first-of, of-use, recs-use, Of}
-use Rattle.rules.proofs.Flags.{true-is-not-false}
+use Rattle.rules.proofs.Flags.{true-is-not-false, kept-some}
 use Rattle.rules.proofs.Rooms.{In, kept-in}
 use Rattle.rules.proofs.Writes.{of-below}
 use Rattle.rules.proofs.Collects.{move-uses}
@@ -55,7 +55,7 @@ pub sure-put : (n p d : ℕ) (was : Flash) (b : ℕ) (u : Use) (s : State) → b
 unfolding use-block
 sure-put n p d was b u s hu h = record { chips = h .chips; tables = length-set (s .uses) b u ∙ h .tables; good = h .good; blanks = λ x f. h .blanks x (set-free (s .uses) b x u hu f); runs = h .runs }
 
-close-sure : (n p d : ℕ) (was : Flash) (s : State) → Sure n p d was s → Sure n p d was (close-open s)
+pub close-sure : (n p d : ℕ) (was : Flash) (s : State) → Sure n p d was s → Sure n p d was (close-open s)
 unfolding close-open
 close-sure n p d was s h = go (blocks-in Open s)
   where
@@ -63,7 +63,7 @@ close-sure n p d was s h = go (blocks-in Open s)
     go [] = h
     go (b ∷ _) = sure-put n p d was b Closed s refl h
 
-close-places : (s : State) → length (close-open s .places) ≡ length (s .places)
+pub close-places : (s : State) → length (close-open s .places) ≡ length (s .places)
 unfolding close-open use-block
 close-places s = go (blocks-in Open s)
   where
@@ -113,6 +113,39 @@ module _ (g : Settings) (n p d l : ℕ) (was : Flash) (page : 1 ≤ p) (page-few
       go : (o : Option BlockRecord) → Of (Leader r (record-of s) (blocks-in Closed s)) o → Of (λ v. length (live-pages s (v .number)) < p) o
       go None ld = tt
       go (Some v) ld = go₁ v ld (cases-lt (length (live-pages s (v .number))) p)
+
+  -- so a cleaning finds a victim, and gains a page
+  pub gains : (s : State) → Sure n p d was s → length (s .places) ≡ l → NoOpen s → 2 ≤ n → (f : ℕ) → blocks-in Free s ≡ f ∷ []
+      → (v : BlockRecord) × (first r (records Closed s) ≡ Some v) × (length (live-pages s (v .number)) < p)
+  gains s h mp nop two f e = go (first r (records Closed s)) refl (victim f s h mp closed) (other (cases-eq f 0))
+    where
+      only : (x : ℕ) → In x (f ∷ []) → x ≡ f
+      only x (inl q) = q
+      only x (inr q) = absurd q
+
+      closed : (x : ℕ) → x < n → (x ≡ f → ⊥) → getD (s .uses) x Free ≡ Closed
+      closed x lx ne = closed-of (getD (s .uses) x Free)
+          (λ q. ne (only x (subst (In x) e (kept-in (λ b. same-use Free (getD (s .uses) b Free)) 0 (length (s .uses)) x (omega arith) (omega (arith, h .tables)) (ap (same-use Free) q))))) (nop x)
+
+      isNone : Option BlockRecord → Type 0
+      isNone None = Unit {0}
+      isNone (Some x) = ⊥
+
+      nonempty : (xs : List ℕ) → (xs ≡ [] → ⊥) → first r (map (record-of s) xs) ≡ None → ⊥
+      nonempty [] q z = q refl
+      nonempty (x ∷ xs) q z = subst isNone (sym z) tt
+
+      at : (x : ℕ) → x < n → (x ≡ f → ⊥) → first r (records Closed s) ≡ None → ⊥
+      at x lx ne = nonempty (blocks-in Closed s) (kept-some (λ b. same-use Closed (getD (s .uses) b Free)) 0 (length (s .uses)) x (omega arith) (omega (arith, h .tables)) (ap (same-use Closed) (closed x lx ne)))
+
+      other : (f ≡ 0) ⊎ (f ≡ 0 → ⊥) → first r (records Closed s) ≡ None → ⊥
+      other (inl q) = at 1 (omega arith) (λ z. omega arith)
+      other (inr q) = at 0 (omega arith) (λ z. q (sym z))
+
+      go : (o : Option BlockRecord) → first r (records Closed s) ≡ o → Of (λ v. length (live-pages s (v .number)) < p) o → (first r (records Closed s) ≡ None → ⊥)
+          → (v : BlockRecord) × (first r (records Closed s) ≡ Some v) × (length (live-pages s (v .number)) < p)
+      go None q lt nn = absurd (nn q)
+      go (Some v) q lt nn = (v, q, lt)
 
   clean-spared : (f : ℕ) (s : State) → Sure n p d was s → length (s .places) ≡ l → NoOpen s → f < length (s .uses) → getD (s .uses) f Free ≡ Free
       → ((x : ℕ) → x < n → (x ≡ f → ⊥) → getD (s .uses) x Free ≡ Closed) → Spared n p d was (clean g r f s)

@@ -19,21 +19,22 @@ use Rattle.rules.specs.declared.Settings.{Settings}
 use Rattle.rules.specs.declared.Use.{Use}
 use Rattle.rules.specs.declared.Use.the-variants.{Free, Open, Closed}
 use Rattle.rules.specs.Tables.{Meter, Tables, State, set-size, begin, tables-of}
-use Rattle.rules.specs.Blocks.{BlockOrder}
-use Rattle.rules.specs.Steps.{make-room, store}
+use Rattle.rules.specs.Blocks.{BlockOrder, blocks-in, live-pages, records, first}
+use Rattle.rules.specs.Steps.{close-open, make-room, store}
 use Rattle.rules.specs.Levelling.{even, level-in, level}
 use Rattle.rules.specs.Calls.{is-worn, writing}
 use Rattle.rules.specs.Obeyed.{obeyed}
 use Rattle.rules.specs.WellFormed.{Fitting, WellFormed, erases-of}
-use Rattle.rules.specs.Laws.{VictimOrder, before-levelling}
+use Rattle.rules.specs.Laws.{VictimOrder, before-levelling, times-erased}
 use Rattle.rules.proofs.Words.{held, counted, Sized, Ready, Between}
 use Rattle.rules.proofs.Ends.{Levelled, between-even, level-more}
 use Rattle.rules.proofs.Settled.{OneOpen}
 use Rattle.rules.proofs.Steady.{Holding}
 use Rattle.rules.proofs.Stable.{keeps-makeRoom, keeps-store}
-use Rattle.rules.proofs.Runs.{Shaped, own-shape, runs-shaped, runs-obeyed}
+use Rattle.rules.proofs.Runs.{Shaped, own-shape, runs-shaped, runs-obeyed, runs-times}
 use Rattle.rules.proofs.Sures.{Long, Good, Sure}
-use Rattle.rules.proofs.Spaces.{levelled-sure}
+use Rattle.rules.proofs.Spaces.{levelled-sure, gains, close-sure, close-places}
+use Rattle.rules.proofs.Opened.{closes-open}
 use Rattle.rules.proofs.Grows.{AtMost, grows}
 use Rattle.rules.proofs.Stays.{Booked, booked-stable, booked-level}
 use Rattle.rules.proofs.Stored.{wide, levelled-write, stored-ready, held-write}
@@ -92,11 +93,6 @@ module _ (r : BlockOrder) (x : Tables) (f : Flash) (k : WellFormed x f) (t : ℕ
         ap (λ (s : State). even (x .settings) (s .meter)) level-is ∙ e,
         λ turns l. level-more (x .settings) (suc (length (x .meter .flags))) turns (before-levelling r x f t bytes) (omega (arith, turns-are)) e ∙ sym level-is,
       )
-
-  pub grown : AtMost (counted (begin x f)) (writing (x .settings) r t bytes (begin x f))
-  unfolding writing
-  grown = subst (AtMost (counted (begin x f))) (sym level-is)
-      (grows (x .settings) (length (f .blocks)) (length (x .meter .flags)) (size-pred (x .settings) .0) (size-pred (x .settings) .1) (k .flags-each) (suc (length (x .meter .flags))) r (page-of t bytes) (begin x f) (begin-ready x f k))
 
   module _ (vo : VictimOrder r) (c : ChipFits f) (tl : t < x .settings .logical) (bl : length bytes ≡ f .d) where
     num : InNumbers (x .settings) f
@@ -173,3 +169,16 @@ module _ (x : Tables) (f : Flash) (k : WellFormed x f) (c : ChipFits f) (t : Sta
 
   pub wrote-obeyed : is-worn f ≡ false → obeyed (t .log) f ≡ Some (t .chip)
   wrote-obeyed nw = runs-obeyed (length (f .blocks)) (f .p) (f .d) (f .e) (λ b. block f b .count) (not-worn f c nw) (t .log) f (t .chip) (own-shape f) (w .sure .runs) (λ b. omega arith) (λ b. w .most b .1)
+
+  pub wrote-once : (b : ℕ) → times-erased b (t .log) ≤ 1
+  wrote-once b = omega (arith, runs-times (length (f .blocks)) (f .p) (f .d) (t .log) f (t .chip) refl (w .sure .runs) b, w .most b .1)
+
+-- a cleaning gains
+pub cleaning : (r : BlockOrder) → VictimOrder r → (x : Tables) (f : Flash) → ChipFits f → WellFormed x f → (d : ℕ) → blocks-in Free (close-open (begin x f)) ≡ d ∷ []
+    → (v : BlockRecord) × (first r (records Closed (close-open (begin x f))) ≡ Some v) × (length (live-pages (close-open (begin x f)) (v .number)) < f .p)
+cleaning r vo x f c k d e =
+    let num = in-numbers (x .settings) f (k .fitting) in
+    let s = begin x f in
+    gains (x .settings) (length (f .blocks)) (f .p) (f .d) (x .settings .logical) f (num .some-pages) (num .few-pages) refl (num .room) r
+    (λ a b ne. vo .total b a (λ z. ne (sym z))) (vo .transitive) (vo .full-last) (close-open s) (close-sure (length (f .blocks)) (f .p) (f .d) f s (begin-sure x f k c))
+    (close-places s ∙ k .places-each) (closes-open s (k .one-open)) (num .two-blocks) d e

@@ -1,6 +1,11 @@
 // The laws of the rules: facts about the definitions that say what a leveller does, for every sound leveller and
 // every victim order that keeps just its laws.
-ghost use Rattle.rules.specs.Laws.{Start-keeps, Write-keeps, Read-keeps, Discard-keeps, Write-obeyed, Write-once, Search-ends, Levelling-ends};
+ghost use Rattle.rules.specs.Laws.{New-sound, Start-keeps, Write-keeps, Read-keeps, Discard-keeps, Write-obeyed, Write-once, Cleaning-gains, Search-ends, Levelling-ends};
+
+/// Promises that a leveller that is not started is sound.
+pub fn new_sound()
+    ensures { λ _. ⌜ New-sound ⌝ }
+{}
 
 /// Promises that start leaves a sound leveller.
 pub fn start_keeps()
@@ -30,6 +35,11 @@ pub fn write_obeyed()
 /// Promises that a write erases no block twice.
 pub fn write_once()
     ensures { λ _. ⌜ Write-once ⌝ }
+{}
+
+/// Promises that a cleaning finds a victim with a page that is not live.
+pub fn cleaning_gains()
+    ensures { λ _. ⌜ Cleaning-gains ⌝ }
 {}
 
 /// Promises that the search for a clear flag finds one.
