@@ -1,32 +1,27 @@
 -- A collection: each block of a set that is in use is erased once.
 use mathlib.Core.Path.{_≡_, refl, sym, ap, _∙_, subst}
-use mathlib.Core.Bool.{Bool, true, false, cond, not}
-use mathlib.Core.List.{List, [], _∷_, _++_, map}
-use mathlib.Core.Logic.{_⊎_, inl, inr}
-use Prim.Native.Nat.{ℕ, zero, suc, _+_, _*_, _/_, _≤_, _<_}
+use mathlib.Core.Bool.{true, false, cond}
+use mathlib.Core.List.{List, [], _∷_, map}
+use Prim.Native.Nat.{ℕ, zero, suc, _+_, _/_, _≤_, _<_}
 use native.Mathlib.Omega.{arith}
-use lib.Dec.{T, leb}
 use lib.ListN.{length, getD, set}
 use Rattle.std.specs.Iters.{counting}
-use Rattle.std.specs.shelf.Lists.{All, kept-by}
 use Rattle.std.specs.declared.option.Option.{Option}
 use Rattle.std.specs.declared.option.Option.the-variants.{Some, None}
 use Rattle.std.proofs.shelf.Lists.{length-set, getD-set-same, getD-set-other, set-getD}
-use Rattle.std.proofs.shelf.Tests.{cases-eq, cases-lt}
 use Rattle.orders.specs.declared.block.BlockRecord.{BlockRecord}
 use Rattle.orders.specs.Ranks.{least-erased}
-use Rattle.flash.specs.Meaning.{Page, Block, Op, program, erase, no-block, no-page}
+use Rattle.flash.specs.Meaning.{Page}
 use Rattle.rules.specs.declared.Settings.{Settings}
-use Rattle.rules.specs.declared.Place.{Place}
 use Rattle.rules.specs.declared.Use.{Use}
 use Rattle.rules.specs.declared.Use.the-variants.{Free, Open, Closed}
 use Rattle.rules.specs.Tables.{Meter, State, set-size}
-use Rattle.rules.specs.Blocks.{BlockOrder, same-use, blocks-in, names, live-from, live-pages, record-of, better, first, first-free, head-of}
-use Rattle.rules.specs.Steps.{use-block, program-page, count-erase, erase-block, copy, move, clean, close-open, open-first, open-next, has-room, make-room, store}
-use Rattle.rules.specs.Levelling.{set-blocks, clear-out, collect-block, collect, next, seek, sought, turn-to, end-round, even, collect-next, level-in}
-use Rattle.rules.specs.WellFormed.{ones, busy}
-use Rattle.rules.proofs.Words.{held, counted, Busy, SomeFree, Freed, Sized, Ready, Between}
-use Rattle.rules.proofs.Frame.{copy-uses, copy-meter, first-of, recs-use, Of, busy-below}
+use Rattle.rules.specs.Blocks.{same-use, blocks-in, live-pages, record-of, first, first-free}
+use Rattle.rules.specs.Steps.{use-block, count-erase, erase-block, move}
+use Rattle.rules.specs.Levelling.{clear-out, collect-block, collect}
+use Rattle.rules.specs.WellFormed.{busy}
+use Rattle.rules.proofs.Words.{Busy, SomeFree}
+use Rattle.rules.proofs.Frame.{copy-uses, copy-meter, first-of, recs-use, Of, busy-below, first-some}
 use Rattle.rules.proofs.Flags.{kept-some, true-is-not-false}
 
 -- what the erase of b in a collection leaves
@@ -75,20 +70,12 @@ after-move g b d u s hu hb hd =
       );
     }
 
-after-away : (g : Settings) (b : ℕ) (u : Use) (s : State) → busy u ≡ true → Busy s b → SomeFree s → After g b s (clear-out g b u s)
+after-clear-out : (g : Settings) (b : ℕ) (u : Use) (s : State) → busy u ≡ true → Busy s b → SomeFree s → After g b s (clear-out g b u s)
 unfolding clear-out
-after-away g b u s hu hb sf = go (live-pages s b)
+after-clear-out g b u s hu hb sf = go (live-pages s b)
   where
     none : first least-erased (map (record-of s) (blocks-in Free s)) ≡ None → ⊥
-    none = nonempty (blocks-in Free s) (kept-some (λ x. same-use Free (getD (s .uses) x Free)) 0 (length (s .uses)) (sf .0) (omega arith) (omega (arith, sf .1)) (ap (same-use Free) (sf .2)))
-      where
-        isNone : Option BlockRecord → Type 0
-        isNone None = Unit {0}
-        isNone (Some x) = ⊥
-
-        nonempty : (xs : List ℕ) → (xs ≡ [] → ⊥) → first least-erased (map (record-of s) xs) ≡ None → ⊥
-        nonempty [] n e = n refl
-        nonempty (x ∷ xs) n e = subst isNone (sym e) tt
+    none = first-some least-erased (record-of s) (blocks-in Free s) (kept-some (λ x. same-use Free (getD (s .uses) x Free)) 0 (length (s .uses)) (sf .0) (omega arith) (omega (arith, sf .1)) (ap (same-use Free) (sf .2)))
 
     go₁ : (o : Option BlockRecord) → (o ≡ None → ⊥) → Of (λ v. getD (s .uses) (v .number) Free ≡ Free) o → After g b s (elim o [ None ↦ s | Some d ↦ move g b (d .number) u s ])
     go₁ None n t = absurd (n refl)
@@ -98,14 +85,14 @@ after-away g b u s hu hb sf = go (live-pages s b)
     go [] = after-erase g b s hb
     go (_ ∷ _) = go₁ (first-free s) none (first-of _ least-erased _ (recs-use Free g s))
 
-pub after-collect1 : (g : Settings) (b : ℕ) (s : State) → Busy s b → SomeFree s → After g b s (collect-block g b s)
+pub after-collect-block : (g : Settings) (b : ℕ) (s : State) → Busy s b → SomeFree s → After g b s (collect-block g b s)
 unfolding collect-block
-after-collect1 g b s hb sf = go (getD (s .uses) b Free) refl
+after-collect-block g b s hb sf = go (getD (s .uses) b Free) refl
   where
     go : (u : Use) → getD (s .uses) b Free ≡ u → After g b s (elim u [ Free ↦ s | Open ↦ clear-out g b Open s | Closed ↦ clear-out g b Closed s ])
     go Free e = true-is-not-false (sym hb ∙ ap busy e)
-    go Open e = after-away g b Open s refl hb sf
-    go Closed e = after-away g b Closed s refl hb sf
+    go Open e = after-clear-out g b Open s refl hb sf
+    go Closed e = after-clear-out g b Closed s refl hb sf
 
 -- the blocks of set i from a on, k of them, whose flag is set already
 pub collected : (g : Settings) (i k a : ℕ) (s : State) → getD (s .meter .flags) i true ≡ true → ((x : ℕ) → a ≤ x → x < a + k → Busy s x × (x / set-size g ≡ i)) → SomeFree s
@@ -115,7 +102,7 @@ collected g i zero a s hf hs sf = (omega arith, refl, sf)
 collected g i (suc k) a s hf hs sf =
     let at = hs a (omega arith) (omega arith) in
     let t = collect-block g a s in
-    let af = after-collect1 g a s (at .0) sf in
+    let af = after-collect-block g a s (at .0) sf in
     let ms : t .meter ≡ count-erase i (s .meter) = af .meter-is ∙ ap (λ j. count-erase j (s .meter)) (at .1) in
     let fl : t .meter .flags ≡ s .meter .flags = ap (λ (m : Meter). m .flags) ms ∙ ap (set (s .meter .flags) i) (sym hf) ∙ set-getD (s .meter .flags) i true in
     let fc : t .meter .fcnt ≡ s .meter .fcnt = ap (λ (m : Meter). m .fcnt) ms ∙ ap (λ v. cond v (s .meter .fcnt) (suc (s .meter .fcnt))) hf in
@@ -130,7 +117,7 @@ unfolding collect count-erase
 collected-new g i k a s hi hf hs sf =
     let at = hs a (omega arith) (omega arith) in
     let t = collect-block g a s in
-    let af = after-collect1 g a s (at .0) sf in
+    let af = after-collect-block g a s (at .0) sf in
     let ms : t .meter ≡ count-erase i (s .meter) = af .meter-is ∙ ap (λ j. count-erase j (s .meter)) (at .1) in
     let fl : getD (t .meter .flags) i true ≡ true = ap (λ (m : Meter). getD (m .flags) i true) ms ∙ getD-set-same (s .meter .flags) i true true hi in
     let fc : t .meter .fcnt ≡ suc (s .meter .fcnt) = ap (λ (m : Meter). m .fcnt) ms ∙ ap (λ v. cond v (s .meter .fcnt) (suc (s .meter .fcnt))) hf in

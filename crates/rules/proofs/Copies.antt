@@ -1,30 +1,22 @@
 -- Copying the live pages of a block leaves none of them named there, and all named pages written.
 use mathlib.Core.Path.{_≡_, refl, sym, ap, _∙_, subst}
-use mathlib.Core.Bool.{Bool, true, false, cond, not, _&&_}
-use mathlib.Core.List.{List, [], _∷_, _++_, map}
+use mathlib.Core.Bool.{Bool, true, false, cond}
+use mathlib.Core.List.{List, [], _∷_, _++_}
 use mathlib.Core.Logic.{_⊎_, inl, inr}
 use Prim.Native.Nat.{ℕ, zero, suc, _+_, _≤_, _<_}
 use native.Mathlib.Omega.{arith}
-use lib.Dec.{T, eqb}
-use lib.ListN.{length, getD, set, List·getD-append}
+use lib.ListN.{length, getD, List·getD-append}
 use Rattle.std.specs.declared.option.Option.{Option}
 use Rattle.std.specs.declared.option.Option.the-variants.{Some, None}
-use Rattle.std.proofs.shelf.Lists.{length-set, getD-set-same, getD-set-other, getD-past, length-push, getD-push}
-use Rattle.std.proofs.shelf.Tests.{cases-eq, cases-lt}
+use Rattle.std.proofs.shelf.Lists.{length-set, getD-set-same, getD-set-other, length-push, getD-push}
+use Rattle.std.proofs.shelf.Tests.{cases-eq}
 use Rattle.std.proofs.shelf.Ways.{tells}
-use Rattle.orders.specs.declared.block.BlockRecord.{BlockRecord}
-use Rattle.orders.specs.Ranks.{least-erased}
-use Rattle.flash.specs.Meaning.{Page, Block, Op, program, erase, no-block, no-page}
-use Rattle.rules.specs.declared.Settings.{Settings}
+use Rattle.flash.specs.Meaning.{Page, Block, no-block, no-page}
 use Rattle.rules.specs.declared.Place.{Place}
-use Rattle.rules.specs.declared.Use.{Use}
-use Rattle.rules.specs.declared.Use.the-variants.{Free, Open, Closed}
-use Rattle.rules.specs.Tables.{Meter, State, set-size}
-use Rattle.rules.specs.Blocks.{BlockOrder, same-use, blocks-in, names, live-from, live-pages, record-of, better, first, first-free, head-of}
-use Rattle.rules.specs.Steps.{use-block, program-page, count-erase, erase-block, copy, move, clean, close-open, open-first, open-next, has-room, make-room, store}
-use Rattle.rules.specs.Levelling.{set-blocks, clear-out, collect-block, collect, next, seek, sought, turn-to, end-round, even, collect-next, level-in}
-use Rattle.rules.specs.WellFormed.{ones, busy}
-use Rattle.rules.proofs.Words.{held, counted, Busy, SomeFree, Freed, Sized, Ready, Between}
+use Rattle.rules.specs.Tables.{State}
+use Rattle.rules.specs.Blocks.{names, live-from, live-pages}
+use Rattle.rules.specs.Steps.{program-page, copy}
+use Rattle.rules.proofs.Words.{held}
 use Rattle.rules.proofs.Flags.{true-is-not-false}
 
 abbrev pub at : ℕ → ℕ → Place
@@ -55,15 +47,15 @@ same-place b i b′ i′ e = (ap (λ o. put o .0) e, ap (λ o. put o .1) e)
     put None = (0, 0)
     put (Some q) = (q .block, q .page)
 
-pub here-is : (o : Option Place) (b i : ℕ) → names o b i ≡ true → o ≡ Some (at b i)
-here-is None b i h = true-is-not-false (sym h)
-here-is (Some q) b i h =
+pub names-is : (o : Option Place) (b i : ℕ) → names o b i ≡ true → o ≡ Some (at b i)
+names-is None b i h = true-is-not-false (sym h)
+names-is (Some q) b i h =
     let e₀ : q .block ≡ b = grind (arith, tells) in
     let e₁ : q .page ≡ i = grind (arith, tells) in
     λ k. Some (at (e₀ k) (e₁ k))
 
-pub here-not : (o : Option Place) (b i : ℕ) → names o b i ≡ false → o ≡ Some (at b i) → ⊥
-here-not o b i h e =
+pub names-not : (o : Option Place) (b i : ℕ) → names o b i ≡ false → o ≡ Some (at b i) → ⊥
+names-not o b i h e =
     let z : names (Some (at b i)) b i ≡ false = ap (λ q. names q b i) (sym e) ∙ h in
     let y : names (Some (at b i)) b i ≡ true = grind (arith, tells) in
     true-is-not-false (sym y ∙ z)
@@ -120,7 +112,6 @@ record Copying (m : List (Option Place)) (b d : ℕ) (rest : List Page) (i : ℕ
   found : (k : ℕ) → k < length rest → pageAt s b (i + k) ≡ getD rest k no-page
   long : length (held s b .pages) ≡ i + length rest
   left : (t k : ℕ) → named s t b k → (i ≤ k) × (getD m t None ≡ Some (at b k))
-  still-there : (t k : ℕ) → getD m t None ≡ Some (at b k) → i ≤ k → named s t b k
   valid : Valid s
 
 pub record Copied (b : ℕ) (s t : State) : Type 0 where
@@ -145,7 +136,7 @@ copying m b d ne (q ∷ qs) i s c = go (λ s₁ c₁. copying m b d ne qs (suc i
     go : ((s₁ : State) → Copying m b d qs (suc i) s₁ → Copied b s₁ (copy d (live-from m b (suc i) qs) s₁)) → (v : Bool) → names (getD m (q .tag) None) b i ≡ v
         → Copied b s (copy d (cond v (q ∷ live-from m b (suc i) qs) (live-from m b (suc i) qs)) s)
     go rec true e =
-        let was : getD m (q .tag) None ≡ Some (at b i) = here-is (getD m (q .tag) None) b i e in
+        let was : getD m (q .tag) None ≡ Some (at b i) = names-is (getD m (q .tag) None) b i e in
         let s₁ = program-page d q s in
         let tl : q .tag < length (s .places) = subst (λ k. q .tag < k) (sym (c .mapped)) (place-below m (q .tag) (at b i) was) in
         let pc = program-chip d q s in
@@ -162,7 +153,6 @@ copying m b d ne (q ∷ qs) i s c = go (λ s₁ c₁. copying m b d ne qs (suc i
               let w = c .left t k h₀ in
               let ki : k ≡ i → ⊥ = λ z. other t k h (sym (c .valid t b k h₀ .1) ∙ ap (λ y. pageAt s b y .tag) z ∙ ap (λ (x : Page). x .tag) q-is) in
               (omega (arith, w .0), w .1));
-          still-there = λ t k h l. place-other d q s (c .in-chip) t (λ z. absurd (let p = same-place b i b k (sym was ∙ ap (λ y. getD m y None) (sym z) ∙ h) .1 in omega arith)) ∙ c .still-there t k h (omega arith);
           valid = valid-program d q s (c .in-chip) tl (c .valid);
         }) in
         record { valid = r .valid; gone = r .gone }
@@ -173,10 +163,9 @@ copying m b d ne (q ∷ qs) i s c = go (λ s₁ c₁. copying m b d ne qs (suc i
       long = c .long ∙ omega arith;
       left = λ t k h.
           (let w = c .left t k h in
-          let ki : k ≡ i → ⊥ = λ z. here-not (getD m (q .tag) None) b i e
+          let ki : k ≡ i → ⊥ = λ z. names-not (getD m (q .tag) None) b i e
           (ap (λ y. getD m y None) (sym (ap (λ (x : Page). x .tag) q-is) ∙ ap (λ y. pageAt s b y .tag) (sym z) ∙ c .valid t b k h .1) ∙ w .1 ∙ ap (λ y. Some (at b y)) z) in
           (omega (arith, w .0), w .1));
-      still-there = λ t k h l. c .still-there t k h (omega arith);
       valid = c .valid;
     })
 
@@ -188,6 +177,5 @@ copies b d s ne l v = copying (s .places) b d ne (held s b .pages) 0 s (record {
   found = λ k h. ap (pageAt s b) (omega arith);
   long = omega arith;
   left = λ t k h. (omega arith, h);
-  still-there = λ t k h z. h;
   valid = v;
 })

@@ -11,21 +11,12 @@ use Rattle.std.specs.declared.option.Option.{Option}
 use Rattle.std.specs.declared.option.Option.the-variants.{Some, None}
 use Rattle.std.proofs.shelf.Tests.{cases-eq}
 use Rattle.std.proofs.shelf.Ways.{tells}
-use Rattle.orders.specs.declared.block.BlockRecord.{BlockRecord}
-use Rattle.orders.specs.Ranks.{least-erased}
-use Rattle.flash.specs.Meaning.{Page, Block, Op, program, erase, no-block, no-page}
-use Rattle.rules.specs.declared.Settings.{Settings}
+use Rattle.flash.specs.Meaning.{Page}
 use Rattle.rules.specs.declared.Place.{Place}
-use Rattle.rules.specs.declared.Use.{Use}
-use Rattle.rules.specs.declared.Use.the-variants.{Free, Open, Closed}
-use Rattle.rules.specs.Tables.{Meter, State, set-size}
-use Rattle.rules.specs.Blocks.{BlockOrder, same-use, blocks-in, names, live-from, live-pages, record-of, better, first, first-free, head-of}
-use Rattle.rules.specs.Steps.{use-block, program-page, count-erase, erase-block, copy, move, clean, close-open, open-first, open-next, has-room, make-room, store}
-use Rattle.rules.specs.Levelling.{set-blocks, clear-out, collect-block, collect, next, seek, sought, turn-to, end-round, even, collect-next, level-in}
-use Rattle.rules.specs.WellFormed.{ones, busy}
-use Rattle.rules.proofs.Words.{held, counted, Busy, SomeFree, Freed, Sized, Ready, Between}
+use Rattle.rules.specs.Tables.{State}
+use Rattle.rules.specs.Blocks.{names, live-from, live-pages}
 use Rattle.rules.proofs.Sums.{sums}
-use Rattle.rules.proofs.Copies.{at, here-is}
+use Rattle.rules.proofs.Copies.{at, names-is}
 
 -- 1 where a place lies in block b, at page i or after it
 abbrev lies : Option Place → ℕ → ℕ → ℕ
@@ -60,12 +51,12 @@ lying-one (o ∷ m) zero b i h =
     omega (arith, lying-less m b i)
 lying-one (o ∷ m) (suc t) b i h = omega (arith, lying-one m t b i h, lies-less o b i)
 
-alive-lies : (m : List (Option Place)) (b i : ℕ) (ps : List Page) → length (live-from m b i ps) ≤ lying m b i
-alive-lies m b i [] = omega arith
-alive-lies m b i (q ∷ qs) = go (alive-lies m b (suc i) qs) (names (getD m (q .tag) None) b i) refl
+live-lies : (m : List (Option Place)) (b i : ℕ) (ps : List Page) → length (live-from m b i ps) ≤ lying m b i
+live-lies m b i [] = omega arith
+live-lies m b i (q ∷ qs) = go (live-lies m b (suc i) qs) (names (getD m (q .tag) None) b i) refl
   where
     go : length (live-from m b (suc i) qs) ≤ lying m b (suc i) → (v : Bool) → names (getD m (q .tag) None) b i ≡ v → length (cond v (q ∷ live-from m b (suc i) qs) (live-from m b (suc i) qs)) ≤ lying m b i
-    go rec true e = omega (arith, lying-one m (q .tag) b i (here-is (getD m (q .tag) None) b i e))
+    go rec true e = omega (arith, lying-one m (q .tag) b i (names-is (getD m (q .tag) None) b i e))
     go rec false e = omega (arith, lying-less m b i)
 
 sums-none : (a n : ℕ) → sums (λ b. 0) a n ≡ 0
@@ -102,7 +93,7 @@ lying-all [] a n = omega (arith, sums-none a n)
 lying-all (o ∷ m) a n = omega (arith, sums-add (λ b. lies o b 0) (λ b. lying m b 0) a n, lies-once o a n, lying-all m a n)
 
 pub crowd : (s : State) (a n : ℕ) → sums (λ b. length (live-pages s b)) a n ≤ length (s .places)
-crowd s a n = omega (arith, sums-le (λ b. length (live-pages s b)) (λ b. lying (s .places) b 0) a n (λ b. alive-lies (s .places) b 0 _), lying-all (s .places) a n)
+crowd s a n = omega (arith, sums-le (λ b. length (live-pages s b)) (λ b. lying (s .places) b 0) a n (λ b. live-lies (s .places) b 0 _), lying-all (s .places) a n)
 
 sums-each : (f : ℕ → ℕ) (p a n : ℕ) → ((x : ℕ) → a ≤ x → x < a + n → p ≤ f x) → n * p ≤ sums f a n
 sums-each f p a zero h = omega arith

@@ -1,19 +1,18 @@
 -- Levelling ends, with the counters as they are between calls, and no more turns would change what it gives.
-use mathlib.Core.Path.{_≡_, refl, sym, ap, _∙_, subst}
-use mathlib.Core.Bool.{Bool, true, false, cond, _||_}
-use mathlib.Core.Logic.{_⊎_, inl, inr}
+use mathlib.Core.Path.{_≡_, refl, sym, subst}
+use mathlib.Core.Bool.{Bool, true, false}
+use mathlib.Core.Logic.{inl, inr}
 use Prim.Native.Nat.{ℕ, zero, suc, _+_, _*_, _≤_, _<_}
 use native.Mathlib.Omega.{arith}
-use lib.Dec.{ltb, eqb}
+use lib.Dec.{eqb}
 use lib.ListN.{length}
 use Rattle.std.proofs.shelf.Ways.{tells}
 use Rattle.rules.specs.declared.Settings.{Settings}
-use Rattle.rules.specs.Tables.{Meter, State, set-size}
+use Rattle.rules.specs.Tables.{State, set-size}
 use Rattle.rules.specs.Levelling.{even, end-round, collect-next, level-in}
-use Rattle.rules.specs.WellFormed.{ones}
-use Rattle.rules.proofs.Words.{Sized, Ready, Between}
+use Rattle.rules.proofs.Words.{Ready, Between}
 use Rattle.rules.proofs.Flags.{ones-le, true-is-not-false}
-use Rattle.rules.proofs.Levels.{calm-true, collects, round-ready}
+use Rattle.rules.proofs.Levels.{even-true, collects, round-ready}
 
 pub not-full : (a b : ℕ) → eqb a b ≡ false → a ≤ b → a < b
 not-full a b h l = grind (arith, tells)
@@ -23,7 +22,7 @@ between-even g s (inl h) = let e = h .0 in grind (arith, tells)
 between-even g s (inr h) = let e = h .1 in grind (arith, tells)
 
 pub even-between : (g : Settings) (s : State) → 1 ≤ s .meter .fcnt → even g (s .meter) ≡ true → Between g s
-even-between g s pos e = inr (pos, calm-true (s .meter) g pos e)
+even-between g s pos e = inr (pos, even-true (s .meter) g pos e)
 
 module _ (g : Settings) (n m : ℕ) (wide : 0 < set-size g) (fits : n ≡ m * set-size g) (w : ℕ) (ew : set-size g ≡ suc w) where
   pub record Levelled (t : State) : Type 0 where

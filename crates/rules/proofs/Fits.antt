@@ -2,7 +2,7 @@
 use mathlib.Core.Path.{_≡_, refl, sym, ap, _∙_, subst}
 use mathlib.Core.Bool.{Bool, true, false, _&&_, _||_}
 use mathlib.Core.List.{List, [], _∷_}
-use Prim.Native.Nat.{ℕ, zero, suc, _+_, _-_, _*_, _/_, _%_, _^_, _≤_, _<_}
+use Prim.Native.Nat.{ℕ, zero, suc, _+_, _-_, _*_, _/_, _%_, _≤_, _<_}
 use native.Mathlib.Omega.{arith}
 use native.Mathlib.Nat.{mul-le-mul-right, div-add-mod'}
 use lib.Dec.{leb, eqb}
@@ -10,14 +10,13 @@ use lib.Pow.{pow-pos}
 use lib.ListN.{length, getD}
 use Rattle.std.specs.shelf.Lists.{All}
 use Rattle.std.proofs.shelf.Tests.{and-parts, leb-true, eqb-true, eqb-false}
-use Rattle.flash.specs.Limits.{between, within}
-use Rattle.flash.specs.Meaning.{Flash, Block, Page, PageFits, BlockFits, block, no-block, no-page, geometry-of, WellFormed as ChipFits}
+use Rattle.flash.specs.Limits.{between}
+use Rattle.flash.specs.Meaning.{Flash, Block, Page, block, no-block, no-page, WellFormed as ChipFits}
 use Rattle.rules.specs.declared.Settings.{Settings}
 use Rattle.rules.specs.Tables.{set-size}
-use Rattle.rules.specs.Calls.{sets-fit, threshold-fits, logical-fits, some-block, is-worn}
+use Rattle.rules.specs.Calls.{sets-fit, some-block, is-worn}
 use Rattle.rules.specs.WellFormed.{Fitting}
 use Rattle.rules.proofs.Flags.{true-is-not-false}
-use Rattle.rules.proofs.Sures.{Long, Good}
 
 pub between-is : (low n high : ℕ) → between low n high ≡ true → (low ≤ n) × (n ≤ high)
 between-is low n high h = let p = and-parts (leb low n) (leb n high) h in (leb-true low n (p .0), leb-true n high (p .1))

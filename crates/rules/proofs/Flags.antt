@@ -1,34 +1,22 @@
 -- The flags, and the lists that are kept of numbers.
 use mathlib.Core.Path.{_≡_, refl, sym, ap, _∙_, subst}
-use mathlib.Core.Bool.{Bool, true, false, cond, not}
-use mathlib.Core.List.{List, [], _∷_, _++_, map}
+use mathlib.Core.Bool.{Bool, true, false, cond}
+use mathlib.Core.List.{List, [], _∷_}
 use mathlib.Core.Logic.{_⊎_, inl, inr}
-use Prim.Native.Nat.{ℕ, zero, suc, _+_, _*_, _/_, _≤_, _<_}
+use Prim.Native.Nat.{ℕ, zero, suc, _+_, _≤_, _<_}
 use native.Mathlib.Omega.{arith}
-use lib.Dec.{T, leb, eqb}
+use lib.Dec.{T, eqb}
 use lib.ListN.{length, getD, set}
 use Rattle.std.specs.Iters.{counting}
-use Rattle.std.specs.shelf.Lists.{All, kept-by}
-use Rattle.std.proofs.shelf.Elements.{all-append, all-kept-by, all-weaker, kept-by-passes}
+use Rattle.std.specs.shelf.Lists.{kept-by}
 use Rattle.std.proofs.shelf.Tests.{cases-eq, cases-lt, eqb-true, eqb-false}
-use Rattle.orders.specs.declared.block.BlockRecord.{BlockRecord}
-use Rattle.orders.specs.Ranks.{least-erased}
-use Rattle.flash.specs.Meaning.{Page, Block, Op, program, erase, no-block, no-page}
-use Rattle.rules.specs.declared.Settings.{Settings}
-use Rattle.rules.specs.declared.Place.{Place}
-use Rattle.rules.specs.declared.Use.{Use}
-use Rattle.rules.specs.declared.Use.the-variants.{Free, Open, Closed}
-use Rattle.rules.specs.Tables.{Meter, State, set-size}
-use Rattle.rules.specs.Blocks.{BlockOrder, same-use, blocks-in, names, live-from, live-pages, record-of, better, first, first-free, head-of}
-use Rattle.rules.specs.Steps.{use-block, program-page, count-erase, erase-block, copy, move, clean, close-open, open-first, open-next, has-room, make-room, store}
-use Rattle.rules.specs.Levelling.{set-blocks, clear-out, collect-block, collect, next, seek, sought, turn-to, end-round, even, collect-next, level-in}
-use Rattle.rules.specs.WellFormed.{ones, busy}
-use Rattle.rules.proofs.Words.{held, counted, Busy, SomeFree, Freed, Sized, Ready, Between}
+use Rattle.rules.specs.Levelling.{next, seek}
+use Rattle.rules.specs.WellFormed.{ones}
 
 pub true-is-not-false : {A : Type 0} → _≡_ {A = Bool} true false → A
 true-is-not-false h = absurd (subst T h tt)
 
-nil-is-not-cons : {A X : Type 0} (x : X) (xs : List X) → x ∷ xs ≡ [] → A
+pub nil-is-not-cons : {A X : Type 0} (x : X) (xs : List X) → x ∷ xs ≡ [] → A
 nil-is-not-cons {A} {X} x xs h = absurd (subst P h tt)
   where
     P : List X → Type 0
@@ -50,12 +38,6 @@ ones-le [] = omega arith
 ones-le (true ∷ bs) = let h = ones-le bs in omega arith
 ones-le (false ∷ bs) = let h = ones-le bs in omega arith
 
-pub ones-all : (bs : List Bool) (j : ℕ) → ones bs ≡ length bs → j < length bs → getD bs j false ≡ true
-ones-all [] j e h = absurd (omega arith)
-ones-all (true ∷ bs) zero e h = refl
-ones-all (true ∷ bs) (suc j) e h = ones-all bs j (omega arith) (omega arith)
-ones-all (false ∷ bs) j e h = absurd (let l = ones-le bs in omega arith)
-
 pub ones-clear : (bs : List Bool) → ones bs < length bs → (j : ℕ) × (j < length bs) × (getD bs j true ≡ false)
 ones-clear [] h = absurd (omega arith)
 ones-clear (true ∷ bs) h = let r = ones-clear bs (omega arith) in (suc (r .0), omega (arith, r .1), r .2)
@@ -76,11 +58,6 @@ pub getD-flag : (bs : List Bool) (i : ℕ) → i < length bs → getD bs i true 
 getD-flag [] i h = absurd (omega arith)
 getD-flag (b ∷ bs) zero h = refl
 getD-flag (b ∷ bs) (suc i) h = getD-flag bs i (omega arith)
-
-below-flags : (bs : List Bool) (i : ℕ) → getD bs i true ≡ false → i < length bs
-below-flags [] i h = true-is-not-false h
-below-flags (b ∷ bs) zero h = omega arith
-below-flags (b ∷ bs) (suc i) h = let l = below-flags bs i h in omega arith
 
 abbrev Found : List Bool → ℕ → Type 0
 Found fs x = (x < length fs) × (getD fs x false ≡ false)

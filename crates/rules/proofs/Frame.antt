@@ -1,30 +1,26 @@
 -- What the parts of a call leave as it is.
 use mathlib.Core.Path.{_≡_, refl, sym, ap, _∙_, subst}
-use mathlib.Core.Bool.{Bool, true, false, cond}
-use mathlib.Core.List.{List, [], _∷_, _++_, map}
+use mathlib.Core.Bool.{true, false, cond}
+use mathlib.Core.List.{List, [], _∷_, map}
 use mathlib.Core.Logic.{_⊎_, inl, inr}
-use Prim.Native.Nat.{ℕ, zero, suc, _+_, _*_, _/_, _≤_, _<_}
-use native.Mathlib.Omega.{arith}
+use Prim.Native.Nat.{ℕ, zero, suc, _≤_, _<_}
 use lib.ListN.{length, getD, set}
 use Rattle.std.specs.shelf.Lists.{All}
 use Rattle.std.specs.declared.option.Option.{Option}
 use Rattle.std.specs.declared.option.Option.the-variants.{Some, None}
-use Rattle.std.proofs.shelf.Lists.{length-set, getD-set-same, getD-set-other, getD-past}
+use Rattle.std.proofs.shelf.Lists.{getD-past}
 use Rattle.std.proofs.shelf.Elements.{all-map, kept-by-passes, all-weaker}
-use Rattle.std.proofs.shelf.Tests.{cases-lt, cases-eq}
+use Rattle.std.proofs.shelf.Tests.{cases-lt}
 use Rattle.orders.specs.declared.block.BlockRecord.{BlockRecord}
-use Rattle.orders.specs.Ranks.{least-erased}
-use Rattle.flash.specs.Meaning.{Page, Block, Op, program, erase, no-block, no-page}
+use Rattle.flash.specs.Meaning.{Page, Block, no-block}
 use Rattle.rules.specs.declared.Settings.{Settings}
-use Rattle.rules.specs.declared.Place.{Place}
 use Rattle.rules.specs.declared.Use.{Use}
 use Rattle.rules.specs.declared.Use.the-variants.{Free, Open, Closed}
-use Rattle.rules.specs.Tables.{Meter, State, set-size}
-use Rattle.rules.specs.Blocks.{BlockOrder, same-use, blocks-in, names, live-from, live-pages, record-of, better, first, first-free, head-of}
-use Rattle.rules.specs.Steps.{use-block, program-page, count-erase, erase-block, copy, move, clean, close-open, open-first, open-next, has-room, make-room, store}
-use Rattle.rules.specs.Levelling.{set-blocks, clear-out, collect-block, collect, next, seek, sought, turn-to, end-round, even, collect-next, level-in}
-use Rattle.rules.specs.WellFormed.{ones, busy}
-use Rattle.rules.proofs.Words.{held, counted, Busy, SomeFree, Freed, Sized, Ready, Between}
+use Rattle.rules.specs.Tables.{State}
+use Rattle.rules.specs.Blocks.{BlockOrder, same-use, blocks-in, record-of, better, first}
+use Rattle.rules.specs.Steps.{program-page, copy}
+use Rattle.rules.specs.WellFormed.{busy}
+use Rattle.rules.proofs.Words.{counted, Busy}
 
 pub count-set : (bs : List Block) (b x : ℕ) (c : Block) → c .count ≡ getD bs b no-block .count → getD (set bs b c) x no-block .count ≡ getD bs x no-block .count
 count-set [] b x c e = refl
@@ -83,3 +79,12 @@ of-use u s = all-weaker _ _ (λ b h. is-use u (getD (s .uses) b Free) h) (blocks
 
 pub recs-use : (u : Use) (g : Settings) (s : State) → All (λ (v : BlockRecord). getD (s .uses) (v .number) Free ≡ u) (map (record-of s) (blocks-in u s))
 recs-use u g s = all-map (λ (v : BlockRecord). getD (s .uses) (v .number) Free ≡ u) (record-of s) (blocks-in u s) (of-use u s)
+
+-- of some blocks there is a first
+pub first-some : (r : BlockOrder) (f : ℕ → BlockRecord) (xs : List ℕ) → (xs ≡ [] → ⊥) → first r (map f xs) ≡ None → ⊥
+first-some r f [] n e = n refl
+first-some r f (x ∷ xs) n e = absurd (subst P (sym e) tt)
+  where
+    P : Option BlockRecord → Type 0
+    P None = Unit {0}
+    P (Some _) = ⊥

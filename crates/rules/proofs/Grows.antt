@@ -1,37 +1,31 @@
 -- No block is erased twice in one write.
 use mathlib.Core.Path.{_≡_, refl, sym, ap, _∙_, subst}
-use mathlib.Core.Bool.{Bool, true, false, cond, not, _||_}
-use mathlib.Core.List.{List, [], _∷_, _++_, map}
+use mathlib.Core.Bool.{Bool, true, false}
+use mathlib.Core.List.{List, [], _∷_, map}
 use mathlib.Core.Logic.{_⊎_, inl, inr}
-use Prim.Native.Nat.{ℕ, zero, suc, _+_, _*_, _/_, _^_, _≤_, _<_}
+use Prim.Native.Nat.{ℕ, zero, suc, _*_, _/_, _≤_, _<_}
 use native.Mathlib.Omega.{arith}
 use native.Mathlib.Nat.{le-div-iff-mul-le, div-lt-iff-lt-mul, mul-le-mul-right}
-use lib.Dec.{T, leb, ltb, eqb}
-use lib.Pow.{pow-pos}
-use lib.ListN.{length, getD, set}
-use Rattle.std.specs.Iters.{counting}
+use lib.Dec.{eqb}
+use lib.ListN.{length, getD}
 use Rattle.std.specs.declared.option.Option.{Option}
 use Rattle.std.specs.declared.option.Option.the-variants.{Some, None}
-use Rattle.std.proofs.shelf.Ways.{tells}
 use Rattle.orders.specs.declared.block.BlockRecord.{BlockRecord}
-use Rattle.orders.specs.Ranks.{least-erased}
-use Rattle.flash.specs.Meaning.{Page, Block, Op, program, erase, no-block, no-page}
+use Rattle.flash.specs.Meaning.{Page}
 use Rattle.rules.specs.declared.Settings.{Settings}
-use Rattle.rules.specs.declared.Place.{Place}
-use Rattle.rules.specs.declared.Use.{Use}
 use Rattle.rules.specs.declared.Use.the-variants.{Free, Open, Closed}
-use Rattle.rules.specs.Tables.{Meter, State, set-size}
-use Rattle.rules.specs.Blocks.{BlockOrder, same-use, blocks-in, names, live-from, live-pages, record-of, better, first, first-free, head-of}
-use Rattle.rules.specs.Steps.{use-block, program-page, count-erase, erase-block, copy, move, clean, close-open, open-first, open-next, has-room, make-room, store}
-use Rattle.rules.specs.Levelling.{set-blocks, clear-out, collect-block, collect, next, seek, sought, turn-to, end-round, even, collect-next, level-in}
-use Rattle.rules.specs.WellFormed.{ones, busy}
-use Rattle.rules.proofs.Words.{held, counted, Busy, SomeFree, Freed, Sized, Ready, Between}
+use Rattle.rules.specs.Tables.{State, set-size}
+use Rattle.rules.specs.Blocks.{BlockOrder, blocks-in, record-of, first, first-free, head-of}
+use Rattle.rules.specs.Steps.{use-block, program-page, move, clean, close-open, open-first, open-next, has-room, make-room, store}
+use Rattle.rules.specs.Levelling.{sought, turn-to, end-round, even, collect-next, level-in}
+use Rattle.rules.specs.WellFormed.{busy}
+use Rattle.rules.proofs.Words.{counted, Ready}
 use Rattle.rules.proofs.Frame.{program-counted, first-of, recs-use, Of, busy-below}
 use Rattle.rules.proofs.Flags.{true-is-not-false, ones-le, seek-clear, getD-flag}
-use Rattle.rules.proofs.Levels.{set-of, collects}
+use Rattle.rules.proofs.Levels.{set-of, collects, not-even}
 use Rattle.rules.proofs.Ends.{not-full}
 use Rattle.rules.proofs.Writes.{closes, rooms, stores}
-use Rattle.rules.proofs.Once.{Once, Hit, hit-move, once-hit, once-collect}
+use Rattle.rules.proofs.Once.{Once, hit-move, once-hit, once-collect}
 
 abbrev pub AtMost : (ℕ → ℕ) → State → Type 0
 AtMost was t = (x : ℕ) → (was x ≤ counted t x) × (counted t x ≤ suc (was x))
@@ -42,9 +36,6 @@ at-most g was s o x = go (o x)
     go : (counted s x ≡ was x) ⊎ ((counted s x ≡ suc (was x)) × (getD (s .meter .flags) (x / set-size g) false ≡ true)) → (was x ≤ counted s x) × (counted s x ≤ suc (was x))
     go (inl e) = (omega arith, omega arith)
     go (inr e) = (omega (arith, e .0), omega (arith, e .0))
-
-not-calm : (g : Settings) (m : Meter) → even g m ≡ false → 1 ≤ m .fcnt
-not-calm g m h = grind (arith, tells)
 
 module _ (g : Settings) (n m w : ℕ) (wide : set-size g ≡ suc w) (fits : n ≡ m * set-size g) (was : ℕ → ℕ) where
   pos : 0 < set-size g
@@ -77,7 +68,7 @@ module _ (g : Settings) (n m w : ℕ) (wide : set-size g ≡ suc w) (fits : n �
       go rec false ec true ed = at-most g was s o
       go rec false ec false ed =
           let less : s .meter .fcnt < m = subst (λ v. s .meter .fcnt < v) (rd .sized .flagged) (not-full _ _ ed (subst (λ v. v ≤ length (s .meter .flags)) (rd .marked) (ones-le (s .meter .flags)))) in
-          rec (collects g n m pos fits w wide s rd (not-calm g (s .meter) ec) less .ready) (once-next s rd less o)
+          rec (collects g n m pos fits w wide s rd (not-even g (s .meter) ec .0) less .ready) (once-next s rd less o)
 
 module _ (g : Settings) (n m w : ℕ) (wide : set-size g ≡ suc w) (fits : n ≡ m * set-size g) where
   pos₂ : 0 < set-size g

@@ -1,36 +1,36 @@
 -- Every call on a sound leveller, refused or not.
 use mathlib.Core.Path.{_≡_, refl, sym, ap, _∙_, subst}
-use mathlib.Core.Bool.{Bool, true, false, not, _&&_}
+use mathlib.Core.Bool.{Bool, true, false, not}
 use mathlib.Core.List.{List, [], _∷_}
 use mathlib.Core.Logic.{_⊎_, inl, inr}
-use Prim.Native.Nat.{ℕ, zero, suc, _+_, _*_, _/_, _≤_, _<_}
+use Prim.Native.Nat.{ℕ, zero, suc, _*_, _/_, _≤_, _<_}
 use native.Mathlib.Omega.{arith}
 use lib.Dec.{ltb, eqb}
 use lib.ListN.{length, getD, set, replicate}
 use Rattle.std.specs.declared.option.Option.{Option}
 use Rattle.std.specs.declared.option.Option.the-variants.{Some, None}
-use Rattle.std.specs.declared.result.Result.the-variants.{Ok, Err}
-use Rattle.std.proofs.shelf.Lists.{length-set, length-replicate, getD-set-same, getD-set-other, getD-past}
-use Rattle.std.proofs.shelf.Tests.{cases-eq, cases-lt, ltb-true, eqb-true, eqb-false}
+use Rattle.std.specs.declared.result.Result.the-variants.{Ok}
+use Rattle.std.proofs.shelf.Lists.{length-set, length-replicate, getD-past}
+use Rattle.std.proofs.shelf.Tests.{cases-lt, ltb-true, eqb-true}
 use Rattle.flash.specs.Limits.{within}
-use Rattle.flash.specs.Meaning.{Flash, Block, block, no-block, page-of, geometry-of, WellFormed as ChipFits}
+use Rattle.flash.specs.Meaning.{Flash, Block, block, no-block, geometry-of}
 use Rattle.rules.specs.declared.Settings.{Settings}
 use Rattle.rules.specs.declared.Place.{Place}
-use Rattle.rules.specs.declared.Use.{Use}
-use Rattle.rules.specs.declared.Use.the-variants.{Free, Open, Closed}
+use Rattle.rules.specs.declared.Use.the-variants.{Free}
 use Rattle.rules.specs.declared.Written.{Written}
 use Rattle.rules.specs.declared.Refusal.{Refusal}
-use Rattle.rules.specs.declared.Refusal.the-variants.{AlreadyStarted, OutsideLimits, UnevenSets, WrongThreshold, WrongLogical, NotBlank, NotStarted, NoSuchPage, WrongLength, WornOut, Empty}
-use Rattle.rules.specs.Tables.{Tables, State, Leveller, Outcome, begin, left, set-size}
+use Rattle.rules.specs.declared.Refusal.the-variants.{AlreadyStarted, OutsideLimits, UnevenSets, WrongThreshold, WrongLogical, NotBlank, NotStarted, NoSuchPage, WrongLength, WornOut}
+use Rattle.rules.specs.Tables.{Tables, Leveller, Outcome, begin, left, set-size}
 use Rattle.rules.specs.Blocks.{BlockOrder}
-use Rattle.rules.specs.Calls.{refusal, refused, unless, sets-fit, threshold-fits, logical-fits, is-some, some-block, has-written, is-worn, start-checks, write-checks, read-checks, discard-checks, fresh-tables, forgotten, writing, write-done, read-at, start, write, read, discard}
+use Rattle.rules.specs.Calls.{refusal, refused, unless, sets-fit, threshold-fits, logical-fits, is-some, has-written, is-worn, start-checks, write-checks, read-checks, discard-checks, fresh-tables, forgotten, writing, write-done, read-at, start, write, read, discard}
 use Rattle.rules.specs.WellFormed.{Fitting, WellFormed, Kept, Sound}
 use Rattle.rules.specs.Obeyed.{obeyed}
-use Rattle.rules.specs.Laws.{VictimOrder, times-erased, New-sound, Cleaning-gains, Start-keeps, Write-keeps, Read-keeps, Discard-keeps, Write-obeyed, Write-once, Search-ends, Levelling-ends}
-use Rattle.rules.proofs.Flags.{true-is-not-false, seek-clear}
+use Rattle.rules.specs.Laws.{times-erased, New-sound, Cleaning-gains, Start-keeps, Write-keeps, Read-keeps, Discard-keeps, Write-obeyed, Write-once, Search-ends, Levelling-ends}
+use Rattle.rules.proofs.Flags.{seek-clear}
 use Rattle.rules.proofs.Levels.{ones-none}
-use Rattle.rules.proofs.Fits.{InNumbers, in-numbers, sets-whole, none-passes, size-pred}
-use Rattle.rules.proofs.Wrote.{Wrote, wrote, ends, wrote-well, wrote-fits, wrote-obeyed, wrote-once, cleaning}
+use Rattle.rules.proofs.Settled.{free-is-open}
+use Rattle.rules.proofs.Fits.{in-numbers, sets-whole, none-passes}
+use Rattle.rules.proofs.Wrote.{wrote, ends, wrote-well, wrote-fits, wrote-obeyed, wrote-once, cleaning}
 
 -- an outcome is either the refusal or what is done where no check is true
 unless-cases : {T : Type 0} (P : Outcome T → Type 0) (cs : List (Bool × Refusal)) (l : Leveller) (buffer : List ℕ) (done : Outcome T)
@@ -184,14 +184,6 @@ blank-blocks f h b = go (cases-lt b (length (f .blocks)))
     go : (b < length (f .blocks)) ⊎ (length (f .blocks) ≤ b) → length (block f b .pages) ≡ 0
     go (inl l) = eqb-true _ 0 (not-false _ (none-passes (λ x. not (eqb (length (x .pages)) 0)) (f .blocks) h b l))
     go (inr l) = ap (λ (y : Block). length (y .pages)) (getD-past (f .blocks) b no-block l)
-
-free-is-open : {A : Type 0} → _≡_ {A = Use} Free Open → A
-free-is-open e = absurd (subst P e tt)
-  where
-    P : Use → Type 0
-    P Free = Unit {0}
-    P Open = ⊥
-    P Closed = ⊥
 
 start-well : (f : Flash) (g : Settings) → Fitting g f → has-written f ≡ false → WellFormed (fresh-tables f g) f
 start-well f g fit blank =

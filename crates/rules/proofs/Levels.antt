@@ -1,33 +1,27 @@
 -- Levelling ends, with the counters as they are between calls.
 use mathlib.Core.Path.{_≡_, refl, sym, ap, _∙_, subst}
-use mathlib.Core.Bool.{Bool, true, false, cond, not, _||_}
-use mathlib.Core.List.{List, [], _∷_, _++_, map}
+use mathlib.Core.Bool.{Bool, true, false, cond}
+use mathlib.Core.List.{List, [], _∷_}
 use mathlib.Core.Logic.{_⊎_, inl, inr}
-use Prim.Native.Nat.{ℕ, zero, suc, _+_, _*_, _/_, _%_, _≤_, _<_}
+use Prim.Native.Nat.{ℕ, zero, suc, _+_, _*_, _/_, _≤_, _<_}
 use native.Mathlib.Omega.{arith}
-use native.Mathlib.Nat.{le-div-iff-mul-le, div-lt-iff-lt-mul, mul-le-mul-right, mul-le-mul-left}
-use lib.Dec.{T, leb, ltb, eqb}
+use native.Mathlib.Nat.{le-div-iff-mul-le, div-lt-iff-lt-mul, mul-le-mul-right}
 use lib.ListN.{length, getD, set, replicate}
 use Rattle.std.specs.Iters.{counting}
 use Rattle.std.proofs.shelf.Lists.{length-set, getD-set-same, getD-set-other, length-replicate}
-use Rattle.std.proofs.shelf.Tests.{cases-eq, cases-lt}
+use Rattle.std.proofs.shelf.Tests.{cases-eq}
 use Rattle.std.proofs.shelf.Ways.{tells}
-use Rattle.orders.specs.declared.block.BlockRecord.{BlockRecord}
-use Rattle.orders.specs.Ranks.{least-erased}
-use Rattle.flash.specs.Meaning.{Page, Block, Op, program, erase, no-block, no-page}
 use Rattle.rules.specs.declared.Settings.{Settings}
-use Rattle.rules.specs.declared.Place.{Place}
 use Rattle.rules.specs.declared.Use.{Use}
 use Rattle.rules.specs.declared.Use.the-variants.{Free, Open, Closed}
 use Rattle.rules.specs.Tables.{Meter, State, set-size}
-use Rattle.rules.specs.Blocks.{BlockOrder, same-use, blocks-in, names, live-from, live-pages, record-of, better, first, first-free, head-of}
-use Rattle.rules.specs.Steps.{use-block, program-page, count-erase, erase-block, copy, move, clean, close-open, open-first, open-next, has-room, make-room, store}
-use Rattle.rules.specs.Levelling.{set-blocks, clear-out, collect-block, collect, next, seek, sought, turn-to, end-round, even, collect-next, level-in}
+use Rattle.rules.specs.Steps.{use-block, program-page, count-erase, erase-block}
+use Rattle.rules.specs.Levelling.{set-blocks, collect, sought, turn-to, end-round, even, collect-next}
 use Rattle.rules.specs.WellFormed.{ones, busy}
-use Rattle.rules.proofs.Words.{held, counted, Busy, SomeFree, Freed, Sized, Ready, Between}
+use Rattle.rules.proofs.Words.{Busy, SomeFree, Freed, Sized, Ready}
 use Rattle.rules.proofs.Frame.{busy-below}
 use Rattle.rules.proofs.Stable.{Stable, keeps-collect}
-use Rattle.rules.proofs.Flags.{ones-le, ones-all, ones-set, getD-flag, seek-clear, next-below, true-is-not-false}
+use Rattle.rules.proofs.Flags.{ones-set, getD-flag, seek-clear, next-below, true-is-not-false}
 use Rattle.rules.proofs.Collects.{collected-new}
 
 pub set-free : (us : List Use) (d x : ℕ) (u : Use) → busy u ≡ true → getD (set us d u) x Free ≡ Free → getD us x Free ≡ Free
@@ -48,13 +42,11 @@ pub ones-none : (k : ℕ) → ones (replicate k false) ≡ 0
 ones-none zero = refl
 ones-none (suc k) = ones-none k
 
-pub flag-none : (k j : ℕ) → getD (replicate k false) j false ≡ false
-flag-none zero j = refl
-flag-none (suc k) zero = refl
-flag-none (suc k) (suc j) = flag-none k j
+pub even-true : (m : Meter) (g : Settings) → 1 ≤ m .fcnt → even g m ≡ true → m .ecnt < g .threshold * m .fcnt
+even-true m g h e = grind (arith, tells)
 
-pub calm-true : (m : Meter) (g : Settings) → 1 ≤ m .fcnt → even g m ≡ true → m .ecnt < g .threshold * m .fcnt
-calm-true m g h e = grind (arith, tells)
+pub not-even : (g : Settings) (m : Meter) → even g m ≡ false → (1 ≤ m .fcnt) × (g .threshold * m .fcnt ≤ m .ecnt)
+not-even g m e = (grind (arith, tells), grind (arith, tells))
 
 not-busy : (u : Use) → (u ≡ Free → ⊥) → busy u ≡ true
 not-busy Free h = absurd (h refl)

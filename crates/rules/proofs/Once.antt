@@ -1,11 +1,10 @@
 -- A collection erases no block twice.
 use mathlib.Core.Path.{_≡_, refl, sym, ap, _∙_, subst}
-use mathlib.Core.Bool.{Bool, true, false, cond, not}
-use mathlib.Core.List.{List, [], _∷_, _++_, map}
+use mathlib.Core.Bool.{true, false}
+use mathlib.Core.List.{List, [], _∷_}
 use mathlib.Core.Logic.{_⊎_, inl, inr}
-use Prim.Native.Nat.{ℕ, zero, suc, _+_, _*_, _/_, _≤_, _<_}
+use Prim.Native.Nat.{ℕ, zero, suc, _+_, _/_, _≤_, _<_}
 use native.Mathlib.Omega.{arith}
-use native.Mathlib.Nat.{le-div-iff-mul-le, div-lt-iff-lt-mul}
 use lib.ListN.{length, getD, set}
 use Rattle.std.specs.Iters.{counting}
 use Rattle.std.specs.declared.option.Option.{Option}
@@ -13,21 +12,18 @@ use Rattle.std.specs.declared.option.Option.the-variants.{Some, None}
 use Rattle.std.proofs.shelf.Lists.{length-set, getD-set-same, getD-set-other}
 use Rattle.std.proofs.shelf.Tests.{cases-eq}
 use Rattle.orders.specs.declared.block.BlockRecord.{BlockRecord}
-use Rattle.orders.specs.Ranks.{least-erased}
-use Rattle.flash.specs.Meaning.{Page, Block, Op, program, erase, no-block, no-page}
+use Rattle.flash.specs.Meaning.{Page, Block, no-block}
 use Rattle.rules.specs.declared.Settings.{Settings}
-use Rattle.rules.specs.declared.Place.{Place}
 use Rattle.rules.specs.declared.Use.{Use}
 use Rattle.rules.specs.declared.Use.the-variants.{Free, Open, Closed}
 use Rattle.rules.specs.Tables.{Meter, State, set-size}
-use Rattle.rules.specs.Blocks.{BlockOrder, same-use, blocks-in, names, live-from, live-pages, record-of, better, first, first-free, head-of}
-use Rattle.rules.specs.Steps.{use-block, program-page, count-erase, erase-block, copy, move, clean, close-open, open-first, open-next, has-room, make-room, store}
-use Rattle.rules.specs.Levelling.{set-blocks, clear-out, collect-block, collect, next, seek, sought, turn-to, end-round, even, collect-next, level-in}
-use Rattle.rules.specs.WellFormed.{ones, busy}
-use Rattle.rules.proofs.Words.{held, counted, Busy, SomeFree, Freed, Sized, Ready, Between}
-use Rattle.rules.proofs.Frame.{program-counted, copy-uses, copy-meter, busy-below}
-use Rattle.rules.proofs.Flags.{true-is-not-false, seek-clear, getD-flag}
-use Rattle.rules.proofs.Levels.{set-flag, set-of}
+use Rattle.rules.specs.Blocks.{live-pages, first-free}
+use Rattle.rules.specs.Steps.{use-block, program-page, count-erase, erase-block, copy, move}
+use Rattle.rules.specs.Levelling.{clear-out, collect-block, collect}
+use Rattle.rules.proofs.Words.{counted}
+use Rattle.rules.proofs.Frame.{program-counted, copy-meter}
+use Rattle.rules.proofs.Steady.{copy-chip}
+use Rattle.rules.proofs.Levels.{set-flag}
 
 abbrev pub Once : Settings → (ℕ → ℕ) → State → Type 0
 Once g was s = (x : ℕ) → (counted s x ≡ was x) ⊎ ((counted s x ≡ suc (was x)) × (getD (s .meter .flags) (x / set-size g) false ≡ true))
@@ -36,11 +32,6 @@ copy-counted : (d : ℕ) (qs : List Page) (s : State) (x : ℕ) → counted (cop
 unfolding copy
 copy-counted d [] s x = refl
 copy-counted d (q ∷ qs) s x = copy-counted d qs (program-page d q s) x ∙ program-counted d q s x
-
-copy-long : (d : ℕ) (qs : List Page) (s : State) → length (copy d qs s .chip .blocks) ≡ length (s .chip .blocks)
-unfolding copy program-page
-copy-long d [] s = refl
-copy-long d (q ∷ qs) s = copy-long d qs (program-page d q s) ∙ length-set (s .chip .blocks) d _
 
 -- what became of s by the erase of b, or with no erase
 pub record Hit (g : Settings) (b : ℕ) (s t : State) : Type 0 where
@@ -62,20 +53,20 @@ pub hit-move : (g : Settings) (b d : ℕ) (u : Use) (s : State) → b < length (
 unfolding move use-block
 hit-move g b d u s l =
     let c = copy d (live-pages s b) s in
-    let e = hit-erase g b c (omega (arith, copy-long d (live-pages s b) s)) in
+    let e = hit-erase g b c (omega (arith, copy-chip d (live-pages s b) s)) in
     record {
       meter-is = e .meter-is ∙ ap (count-erase (b / set-size g)) (copy-meter d (live-pages s b) s);
       own = e .own ∙ ap suc (copy-counted d (live-pages s b) s b);
       others = λ x ne. e .others x ne ∙ copy-counted d (live-pages s b) s x;
-      long = e .long ∙ copy-long d (live-pages s b) s;
+      long = e .long ∙ copy-chip d (live-pages s b) s;
     }
 
 abbrev Maybe : Settings → ℕ → State → State → Type 0
 Maybe g b s t = (t ≡ s) ⊎ Hit g b s t
 
-hit-away : (g : Settings) (b : ℕ) (u : Use) (s : State) → b < length (s .chip .blocks) → Maybe g b s (clear-out g b u s)
+hit-clear-out : (g : Settings) (b : ℕ) (u : Use) (s : State) → b < length (s .chip .blocks) → Maybe g b s (clear-out g b u s)
 unfolding clear-out
-hit-away g b u s l = go (live-pages s b)
+hit-clear-out g b u s l = go (live-pages s b)
   where
     go₁ : (o : Option BlockRecord) → Maybe g b s (elim o [ None ↦ s | Some d ↦ move g b (d .number) u s ])
     go₁ None = inl refl
@@ -85,14 +76,14 @@ hit-away g b u s l = go (live-pages s b)
     go [] = inr (hit-erase g b s l)
     go (_ ∷ _) = go₁ (first-free s)
 
-hit-collect1 : (g : Settings) (b : ℕ) (s : State) → b < length (s .chip .blocks) → Maybe g b s (collect-block g b s)
+hit-collect-block : (g : Settings) (b : ℕ) (s : State) → b < length (s .chip .blocks) → Maybe g b s (collect-block g b s)
 unfolding collect-block
-hit-collect1 g b s l = go (getD (s .uses) b Free)
+hit-collect-block g b s l = go (getD (s .uses) b Free)
   where
     go : (u : Use) → Maybe g b s (elim u [ Free ↦ s | Open ↦ clear-out g b Open s | Closed ↦ clear-out g b Closed s ])
     go Free = inl refl
-    go Open = hit-away g b Open s l
-    go Closed = hit-away g b Closed s l
+    go Open = hit-clear-out g b Open s l
+    go Closed = hit-clear-out g b Closed s l
 
 pub once-hit : (g : Settings) (was : ℕ → ℕ) (b : ℕ) (s t : State) → b / set-size g < length (s .meter .flags) → counted s b ≡ was b → Hit g b s t → Once g was s → Once g was t
 unfolding count-erase
@@ -113,7 +104,7 @@ once-hit g was b s t l e h o x = go (cases-eq x b) (o x)
 pub once-collect : (g : Settings) (was : ℕ → ℕ) (k a f : ℕ) (s : State) → a + k ≤ length (s .chip .blocks) → length (s .meter .flags) ≡ f → ((x : ℕ) → a ≤ x → x < a + k → (counted s x ≡ was x) × (x / set-size g < f)) → Once g was s → Once g was (collect g (counting a k) s)
 unfolding collect
 once-collect g was zero a f s l lf h o = o
-once-collect g was (suc k) a f s l lf h o = go (λ t lt lf′ ht ot. once-collect g was k (a + 1) f t lt lf′ ht ot) (collect-block g a s) (hit-collect1 g a s (omega arith))
+once-collect g was (suc k) a f s l lf h o = go (λ t lt lf′ ht ot. once-collect g was k (a + 1) f t lt lf′ ht ot) (collect-block g a s) (hit-collect-block g a s (omega arith))
   where
     go : ((t : State) → (a + 1) + k ≤ length (t .chip .blocks) → length (t .meter .flags) ≡ f → ((x : ℕ) → a + 1 ≤ x → x < (a + 1) + k → (counted t x ≡ was x) × (x / set-size g < f)) → Once g was t → Once g was (collect g (counting (a + 1) k) t))
         → (t : State) → Maybe g a s t → Once g was (collect g (counting (a + 1) k) t)

@@ -1,38 +1,35 @@
 -- A call makes room: one block is open, with what was readable kept.
 use mathlib.Core.Path.{_≡_, refl, sym, ap, _∙_, subst}
-use mathlib.Core.Bool.{Bool, true, false, cond, not}
-use mathlib.Core.List.{List, [], _∷_, _++_, map}
+use mathlib.Core.Bool.{Bool, true, false}
+use mathlib.Core.List.{List, [], _∷_, map}
 use mathlib.Core.Logic.{_⊎_, inl, inr}
-use Prim.Native.Nat.{ℕ, zero, suc, _+_, _*_, _/_, _≤_, _<_}
+use Prim.Native.Nat.{ℕ, _≤_, _<_}
 use native.Mathlib.Omega.{arith}
-use lib.Dec.{T, eqb}
 use lib.ListN.{length, getD, set}
 use Rattle.std.specs.shelf.Lists.{All}
 use Rattle.std.specs.declared.option.Option.{Option}
 use Rattle.std.specs.declared.option.Option.the-variants.{Some, None}
 use Rattle.std.proofs.shelf.Elements.{all-map}
-use Rattle.std.proofs.shelf.Lists.{length-set, getD-set-same, getD-set-other}
-use Rattle.std.proofs.shelf.Tests.{cases-eq, cases-lt}
+use Rattle.std.proofs.shelf.Lists.{length-set, getD-set-same}
+use Rattle.std.proofs.shelf.Tests.{cases-eq}
 use Rattle.orders.specs.declared.block.BlockRecord.{BlockRecord}
 use Rattle.orders.specs.Ranks.{least-erased}
-use Rattle.flash.specs.Meaning.{Page, Block, Op, program, erase, no-block, no-page}
 use Rattle.rules.specs.declared.Settings.{Settings}
-use Rattle.rules.specs.declared.Place.{Place}
 use Rattle.rules.specs.declared.Use.{Use}
 use Rattle.rules.specs.declared.Use.the-variants.{Free, Open, Closed}
-use Rattle.rules.specs.Tables.{Meter, State, set-size}
-use Rattle.rules.specs.Blocks.{BlockOrder, same-use, blocks-in, names, live-from, live-pages, record-of, better, first, first-free, head-of}
-use Rattle.rules.specs.Steps.{use-block, program-page, count-erase, erase-block, copy, move, clean, close-open, open-first, open-next, has-room, make-room, store}
-use Rattle.rules.specs.Levelling.{set-blocks, clear-out, collect-block, collect, next, seek, sought, turn-to, end-round, even, collect-next, level-in}
-use Rattle.rules.specs.WellFormed.{ones, busy}
-use Rattle.rules.proofs.Words.{held, counted, Busy, SomeFree, Freed, Sized, Ready, Between}
-use Rattle.rules.proofs.Frame.{first-of, of-use, recs-use, Of, busy-below}
+use Rattle.rules.specs.Tables.{State}
+use Rattle.rules.specs.Blocks.{BlockOrder, same-use, blocks-in, record-of, first, first-free, head-of}
+use Rattle.rules.specs.Steps.{use-block, erase-block, move, clean, close-open, open-first, open-next, make-room}
+use Rattle.rules.specs.Levelling.{turn-to, end-round}
+use Rattle.rules.specs.WellFormed.{busy}
+use Rattle.rules.proofs.Words.{held, SomeFree}
+use Rattle.rules.proofs.Frame.{first-of, of-use, recs-use, Of, busy-below, first-some}
 use Rattle.rules.proofs.Flags.{true-is-not-false, kept-some}
 use Rattle.rules.proofs.Collects.{move-uses}
 use Rattle.rules.proofs.Rooms.{In, kept-in}
 use Rattle.rules.proofs.Writes.{of-below}
-use Rattle.rules.proofs.Steady.{Holding, holding-put, holding-dead, holding-move}
-use Rattle.rules.proofs.Settled.{Settled, OneOpen, HasOpen, set-either, freed-open, free-is-open, busy-apart, recs-below}
+use Rattle.rules.proofs.Steady.{Holding, holding-put, holding-move}
+use Rattle.rules.proofs.Settled.{Settled, OneOpen, HasOpen, set-either, freed-open, busy-apart}
 
 -- a move of b to d, in the use u, as the open blocks see it
 pub moved-open : (s : State) (b d x : ℕ) (u : Use) → b < length (s .uses) → getD (set (set (s .uses) b Free) d u) x Free ≡ Open → ((x ≡ d) × (u ≡ Open)) ⊎ ((getD (s .uses) x Free ≡ Open) × (x ≡ b → ⊥))
@@ -133,16 +130,8 @@ module _ (g : Settings) where
       only x f (inl e) = e
       only x f (inr e) = absurd e
 
-      isNone : Option BlockRecord → Type 0
-      isNone None = Unit {0}
-      isNone (Some x) = ⊥
-
-      nonempty : (xs : List ℕ) → (xs ≡ [] → ⊥) → first r (map (record-of s) xs) ≡ None → ⊥
-      nonempty [] n e = n refl
-      nonempty (x ∷ xs) n e = subst isNone (sym e) tt
-
       some-closed : (f x : ℕ) → x < length (s .uses) → (x ≡ f → ⊥) → ((x : ℕ) → x < length (s .uses) → getD (s .uses) x Free ≡ Free → In x (f ∷ [])) → first r (map (record-of s) (blocks-in Closed s)) ≡ None → ⊥
-      some-closed f x l ne fi = nonempty (blocks-in Closed s) (kept-some (λ b. same-use Closed (getD (s .uses) b Free)) 0 (length (s .uses)) x (omega arith) (omega arith)
+      some-closed f x l ne fi = first-some r (record-of s) (blocks-in Closed s) (kept-some (λ b. same-use Closed (getD (s .uses) b Free)) 0 (length (s .uses)) x (omega arith) (omega arith)
           (ap (same-use Closed) (closed-of (getD (s .uses) x Free) (λ e. ne (only x f (fi x l e))) (nop x))))
 
       pick : (f : ℕ) → (f ≡ 0) ⊎ (f ≡ 0 → ⊥) → ((x : ℕ) → x < length (s .uses) → getD (s .uses) x Free ≡ Free → In x (f ∷ [])) → first r (map (record-of s) (blocks-in Closed s)) ≡ None → ⊥
@@ -154,11 +143,7 @@ module _ (g : Settings) where
       go₁ f l a (Some v) n t = opened-move (v .number) f s t l a nop h
 
       some-first : first-free s ≡ None → ⊥
-      some-first = nonempty₂ (blocks-in Free s) (kept-some (λ b. same-use Free (getD (s .uses) b Free)) 0 (length (s .uses)) (sf .0) (omega arith) (omega (arith, sf .1)) (ap (same-use Free) (sf .2)))
-        where
-          nonempty₂ : (xs : List ℕ) → (xs ≡ [] → ⊥) → first least-erased (map (record-of s) xs) ≡ None → ⊥
-          nonempty₂ [] n e = n refl
-          nonempty₂ (x ∷ xs) n e = subst isNone (sym e) tt
+      some-first = first-some least-erased (record-of s) (blocks-in Free s) (kept-some (λ b. same-use Free (getD (s .uses) b Free)) 0 (length (s .uses)) (sf .0) (omega arith) (omega (arith, sf .1)) (ap (same-use Free) (sf .2)))
 
       go₂ : (o : Option BlockRecord) → (o ≡ None → ⊥) → Of (λ v. v .number < length (s .uses)) o → Opened (elim o [ None ↦ s | Some d ↦ use-block (d .number) Open s ])
       go₂ None n l = absurd (n refl)

@@ -1,6 +1,6 @@
 -- Operations that fit the blocks, and that a chip accepts them where no block is erased twice.
 use mathlib.Core.Path.{_≡_, refl, sym, ap, _∙_, subst}
-use mathlib.Core.Bool.{Bool, true, false, cond}
+use mathlib.Core.Bool.{Bool, true, cond}
 use mathlib.Core.List.{List, [], _∷_, _++_}
 use mathlib.Core.Logic.{_⊎_, inl, inr}
 use Prim.Native.Nat.{ℕ, zero, suc, _+_, _≤_, _<_}
@@ -9,11 +9,9 @@ use lib.Dec.{eqb}
 use lib.ListN.{length, getD, set}
 use Rattle.std.specs.declared.option.Option.{Option}
 use Rattle.std.specs.declared.option.Option.the-variants.{Some, None}
-use Rattle.std.specs.declared.result.Result.the-variants.{Ok, Err}
 use Rattle.std.proofs.shelf.Lists.{length-set, getD-set-same, getD-set-other}
 use Rattle.std.proofs.shelf.Tests.{cases-eq, lt-ltb, eq-eqb, ne-eqb}
-use Rattle.flash.specs.Meaning.{Flash, Block, Page, Op, program, erase, block, no-block, apply, programmed, erased}
-use Rattle.flash.specs.Calls.{program-answer, erase-answer}
+use Rattle.flash.specs.Meaning.{Flash, Block, Op, program, erase, block, no-block, apply, programmed, erased}
 use Rattle.rules.specs.Laws.{times-erased}
 use Rattle.rules.specs.Obeyed.{if-accepted, asked, obeyed}
 use Rattle.rules.proofs.Frame.{count-set}

@@ -1,36 +1,32 @@
 -- What a collection keeps, by the erase of a dead block and the move of a live one.
-use mathlib.Core.Path.{_≡_, refl, sym, ap, _∙_, subst}
-use mathlib.Core.Bool.{Bool, true, false, cond, not}
-use mathlib.Core.List.{List, [], _∷_, _++_, map}
+use mathlib.Core.Path.{_≡_, refl, sym, ap, _∙_}
+use mathlib.Core.Bool.{Bool, true, false}
+use mathlib.Core.List.{List, [], _∷_, map}
 use mathlib.Core.Logic.{_⊎_, inl, inr}
-use Prim.Native.Nat.{ℕ, zero, suc, _+_, _*_, _/_, _≤_, _<_}
-use native.Mathlib.Omega.{arith}
-use lib.Dec.{T, eqb}
+use Prim.Native.Nat.{ℕ, zero, suc, _<_}
+use lib.Dec.{eqb}
 use lib.ListN.{length, getD, set}
 use Rattle.std.specs.shelf.Lists.{All}
 use Rattle.std.specs.declared.option.Option.{Option}
 use Rattle.std.specs.declared.option.Option.the-variants.{Some, None}
 use Rattle.std.proofs.shelf.Elements.{all-map}
-use Rattle.std.proofs.shelf.Lists.{length-set, getD-set-same, getD-set-other}
-use Rattle.std.proofs.shelf.Tests.{cases-eq, cases-lt}
+use Rattle.std.proofs.shelf.Lists.{getD-set-same}
 use Rattle.orders.specs.declared.block.BlockRecord.{BlockRecord}
 use Rattle.orders.specs.Ranks.{least-erased}
-use Rattle.flash.specs.Meaning.{Page, Block, Op, program, erase, no-block, no-page}
+use Rattle.flash.specs.Meaning.{Page}
 use Rattle.rules.specs.declared.Settings.{Settings}
-use Rattle.rules.specs.declared.Place.{Place}
 use Rattle.rules.specs.declared.Use.{Use}
 use Rattle.rules.specs.declared.Use.the-variants.{Free, Open, Closed}
-use Rattle.rules.specs.Tables.{Meter, State, set-size}
-use Rattle.rules.specs.Blocks.{BlockOrder, same-use, blocks-in, names, live-from, live-pages, record-of, better, first, first-free, head-of}
-use Rattle.rules.specs.Steps.{use-block, program-page, count-erase, erase-block, copy, move, clean, close-open, open-first, open-next, has-room, make-room, store}
-use Rattle.rules.specs.Levelling.{set-blocks, clear-out, collect-block, collect, next, seek, sought, turn-to, end-round, even, collect-next, level-in}
-use Rattle.rules.specs.WellFormed.{ones, busy}
-use Rattle.rules.proofs.Words.{held, counted, Busy, SomeFree, Freed, Sized, Ready, Between}
-use Rattle.rules.proofs.Frame.{first-of, of-use, recs-use, Of}
-use Rattle.rules.proofs.Flags.{true-is-not-false, kept-some}
-use Rattle.rules.proofs.Collects.{move-uses}
+use Rattle.rules.specs.Tables.{State}
+use Rattle.rules.specs.Blocks.{blocks-in, live-pages, record-of, first-free}
+use Rattle.rules.specs.Steps.{erase-block, move}
+use Rattle.rules.specs.Levelling.{set-blocks, clear-out, collect-block, collect, sought, turn-to, end-round, even, collect-next, level-in}
+use Rattle.rules.specs.WellFormed.{busy}
+use Rattle.rules.proofs.Words.{Busy}
+use Rattle.rules.proofs.Frame.{first-of, recs-use, Of}
+use Rattle.rules.proofs.Flags.{true-is-not-false}
 use Rattle.rules.proofs.Writes.{of-below}
-use Rattle.rules.proofs.Steady.{Holding, holding-put, holding-dead, holding-move}
+use Rattle.rules.proofs.Steady.{Holding, holding-no-live, holding-move}
 
 pub record Settled (g : Settings) (Q : State → Type 0) : Type 0 where
   pub by-move : (b d : ℕ) (u : Use) (s : State) → getD (s .uses) b Free ≡ u → busy u ≡ true → d < length (s .uses) → getD (s .uses) d Free ≡ Free → Q s → Q (move g b d u s)
@@ -42,9 +38,9 @@ pub recs-below : (u : Use) (g : Settings) (s : State) → All (λ (v : BlockReco
 recs-below u g s = all-map (λ (v : BlockRecord). v .number < length (s .uses)) (record-of s) (blocks-in u s) (of-below u s)
 
 module _ (g : Settings) (Q : State → Type 0) (st : Settled g Q) where
-  settle-away : (b : ℕ) (u : Use) (s : State) → getD (s .uses) b Free ≡ u → busy u ≡ true → Q s → Q (clear-out g b u s)
+  settle-clear-out : (b : ℕ) (u : Use) (s : State) → getD (s .uses) b Free ≡ u → busy u ≡ true → Q s → Q (clear-out g b u s)
   unfolding clear-out
-  settle-away b u s hb hu h = go (live-pages s b) refl
+  settle-clear-out b u s hb hu h = go (live-pages s b) refl
     where
       go₁ : (o : Option BlockRecord) → Of (λ v. getD (s .uses) (v .number) Free ≡ Free) o → Of (λ v. v .number < length (s .uses)) o → Q (elim o [ None ↦ s | Some d ↦ move g b (d .number) u s ])
       go₁ None f l = h
@@ -54,19 +50,19 @@ module _ (g : Settings) (Q : State → Type 0) (st : Settled g Q) where
       go [] e = st .by-dead b s (ap busy hb ∙ hu) e h
       go (_ ∷ _) e = go₁ (first-free s) (first-of _ least-erased _ (recs-use Free g s)) (first-of _ least-erased _ (recs-below Free g s))
 
-  settle-collect1 : (b : ℕ) (s : State) → Q s → Q (collect-block g b s)
+  settle-collect-block : (b : ℕ) (s : State) → Q s → Q (collect-block g b s)
   unfolding collect-block
-  settle-collect1 b s h = go (getD (s .uses) b Free) refl
+  settle-collect-block b s h = go (getD (s .uses) b Free) refl
     where
       go : (u : Use) → getD (s .uses) b Free ≡ u → Q (elim u [ Free ↦ s | Open ↦ clear-out g b Open s | Closed ↦ clear-out g b Closed s ])
       go Free e = h
-      go Open e = settle-away b Open s e refl h
-      go Closed e = settle-away b Closed s e refl h
+      go Open e = settle-clear-out b Open s e refl h
+      go Closed e = settle-clear-out b Closed s e refl h
 
   settle-collect : (bs : List ℕ) (s : State) → Q s → Q (collect g bs s)
   unfolding collect
   settle-collect [] s h = h
-  settle-collect (b ∷ bs) s h = settle-collect bs (collect-block g b s) (settle-collect1 b s h)
+  settle-collect (b ∷ bs) s h = settle-collect bs (collect-block g b s) (settle-collect-block b s h)
 
   pub settle-level : (f : ℕ) (s : State) → Q s → Q (level-in f g s)
   unfolding level-in collect-next
@@ -85,7 +81,7 @@ pub holding-settled : (g : Settings) → Settled g Holding
 unfolding turn-to end-round
 holding-settled g = record {
   by-move = λ b d u s hb hu l hd h. holding-move g b d u s (busy-apart s b d u hb hu hd) l h;
-  by-dead = λ b s hb e h. holding-dead g b s e h;
+  by-dead = λ b s hb e h. holding-no-live g b s e h;
   by-turn = λ i s h. record { valid = h .valid; long = h .long };
   by-round = λ s h. record { valid = h .valid; long = h .long };
 }

@@ -14,18 +14,17 @@ use Rattle.std.proofs.shelf.Lists.{length-set}
 use Rattle.std.proofs.shelf.Tests.{cases-eq, cases-lt, ltb-true}
 use Rattle.orders.specs.declared.block.BlockRecord.{BlockRecord}
 use Rattle.orders.specs.Ranks.{least-erased}
-use Rattle.flash.specs.Meaning.{Flash, Page, Block, Op, program, erase, no-block, no-page}
+use Rattle.flash.specs.Meaning.{Flash, Page}
 use Rattle.rules.specs.declared.Settings.{Settings}
-use Rattle.rules.specs.declared.Place.{Place}
 use Rattle.rules.specs.declared.Use.{Use}
 use Rattle.rules.specs.declared.Use.the-variants.{Free, Open, Closed}
-use Rattle.rules.specs.Tables.{Meter, State, set-size}
-use Rattle.rules.specs.Blocks.{BlockOrder, same-use, blocks-in, names, live-from, live-pages, record-of, records, better, first, first-free, head-of}
-use Rattle.rules.specs.Steps.{use-block, program-page, count-erase, erase-block, copy, move, clean, close-open, open-first, open-next, has-room, make-room, store}
-use Rattle.rules.specs.Levelling.{set-blocks, clear-out, collect-block, collect, next, seek, sought, turn-to, end-round, even, collect-next, level-in}
-use Rattle.rules.specs.WellFormed.{ones, busy}
-use Rattle.rules.proofs.Words.{held, counted, Busy, SomeFree, Freed, Sized, Ready, Between}
-use Rattle.rules.proofs.Frame.{first-of, of-use, recs-use, Of}
+use Rattle.rules.specs.Tables.{State}
+use Rattle.rules.specs.Blocks.{BlockOrder, same-use, blocks-in, live-pages, record-of, records, first, first-free, head-of}
+use Rattle.rules.specs.Steps.{use-block, program-page, move, clean, close-open, open-first, open-next, make-room, store}
+use Rattle.rules.specs.Levelling.{level-in}
+use Rattle.rules.specs.WellFormed.{busy}
+use Rattle.rules.proofs.Words.{held}
+use Rattle.rules.proofs.Frame.{first-of, of-use, recs-use, Of, first-some}
 use Rattle.rules.proofs.Flags.{true-is-not-false, kept-some}
 use Rattle.rules.proofs.Rooms.{In, kept-in}
 use Rattle.rules.proofs.Writes.{of-below}
@@ -127,16 +126,8 @@ module _ (g : Settings) (n p d l : ℕ) (was : Flash) (page : 1 ≤ p) (page-few
       closed x lx ne = closed-of (getD (s .uses) x Free)
           (λ q. ne (only x (subst (In x) e (kept-in (λ b. same-use Free (getD (s .uses) b Free)) 0 (length (s .uses)) x (omega arith) (omega (arith, h .tables)) (ap (same-use Free) q))))) (nop x)
 
-      isNone : Option BlockRecord → Type 0
-      isNone None = Unit {0}
-      isNone (Some x) = ⊥
-
-      nonempty : (xs : List ℕ) → (xs ≡ [] → ⊥) → first r (map (record-of s) xs) ≡ None → ⊥
-      nonempty [] q z = q refl
-      nonempty (x ∷ xs) q z = subst isNone (sym z) tt
-
       at : (x : ℕ) → x < n → (x ≡ f → ⊥) → first r (records Closed s) ≡ None → ⊥
-      at x lx ne = nonempty (blocks-in Closed s) (kept-some (λ b. same-use Closed (getD (s .uses) b Free)) 0 (length (s .uses)) x (omega arith) (omega (arith, h .tables)) (ap (same-use Closed) (closed x lx ne)))
+      at x lx ne = first-some r (record-of s) (blocks-in Closed s) (kept-some (λ b. same-use Closed (getD (s .uses) b Free)) 0 (length (s .uses)) x (omega arith) (omega (arith, h .tables)) (ap (same-use Closed) (closed x lx ne)))
 
       other : (f ≡ 0) ⊎ (f ≡ 0 → ⊥) → first r (records Closed s) ≡ None → ⊥
       other (inl q) = at 1 (omega arith) (λ z. omega arith)

@@ -1,26 +1,23 @@
 -- What every erase, program and change of use keeps, a call keeps up to its levelling.
-use mathlib.Core.Path.{_≡_, refl, sym, ap, _∙_, subst}
-use mathlib.Core.Bool.{Bool, true, false, cond}
-use mathlib.Core.List.{List, [], _∷_, _++_, map}
-use Prim.Native.Nat.{ℕ, zero, suc, _+_, _*_, _/_, _≤_, _<_}
-use lib.ListN.{length, getD, set}
-use Rattle.std.specs.shelf.Lists.{All}
+use mathlib.Core.Path.{_≡_, refl, ap, _∙_}
+use mathlib.Core.Bool.{Bool, true, false}
+use mathlib.Core.List.{List, [], _∷_, map}
+use Prim.Native.Nat.{ℕ}
+use lib.ListN.{getD}
 use Rattle.std.specs.declared.option.Option.{Option}
 use Rattle.std.specs.declared.option.Option.the-variants.{Some, None}
 use Rattle.orders.specs.declared.block.BlockRecord.{BlockRecord}
-use Rattle.orders.specs.Ranks.{least-erased}
-use Rattle.flash.specs.Meaning.{Page, Block, Op, program, erase, no-block, no-page}
+use Rattle.flash.specs.Meaning.{Page}
 use Rattle.rules.specs.declared.Settings.{Settings}
-use Rattle.rules.specs.declared.Place.{Place}
 use Rattle.rules.specs.declared.Use.{Use}
 use Rattle.rules.specs.declared.Use.the-variants.{Free, Open, Closed}
-use Rattle.rules.specs.Tables.{Meter, State, set-size}
-use Rattle.rules.specs.Blocks.{BlockOrder, same-use, blocks-in, names, live-from, live-pages, record-of, better, first, first-free, head-of}
-use Rattle.rules.specs.Steps.{use-block, program-page, count-erase, erase-block, copy, move, clean, close-open, open-first, open-next, has-room, make-room, store}
-use Rattle.rules.specs.Levelling.{set-blocks, clear-out, collect-block, collect, next, seek, sought, turn-to, end-round, even, collect-next, level-in}
-use Rattle.rules.specs.WellFormed.{ones, busy}
-use Rattle.rules.proofs.Words.{held, counted, Busy, SomeFree, Freed, Sized, Ready, Between}
-use Rattle.rules.proofs.Frame.{copy-uses, first-of, of-use, recs-use, Of}
+use Rattle.rules.specs.Tables.{State}
+use Rattle.rules.specs.Blocks.{BlockOrder, blocks-in, live-pages, record-of, first, first-free, head-of}
+use Rattle.rules.specs.Steps.{use-block, program-page, erase-block, copy, move, clean, close-open, open-first, open-next, has-room, make-room, store}
+use Rattle.rules.specs.Levelling.{clear-out, collect-block, collect}
+use Rattle.rules.specs.WellFormed.{busy}
+use Rattle.rules.proofs.Words.{Busy}
+use Rattle.rules.proofs.Frame.{copy-uses, first-of, recs-use, Of}
 
 pub record Stable (g : Settings) (Q : State → Type 0) : Type 0 where
   pub by-put : (b : ℕ) (u : Use) (s : State) → busy u ≡ true → Q s → Q (use-block b u s)
@@ -64,19 +61,19 @@ module _ (g : Settings) (Q : State → Type 0) (st : Stable g Q) where
       go None = h
       go (Some d) = st .by-put (d .number) Open s refl h
 
-  pub keeps-openNext : (r : BlockOrder) (fs : List ℕ) (s : State) → Q s → Q (open-next g r fs s)
+  pub keeps-open-next : (r : BlockOrder) (fs : List ℕ) (s : State) → Q s → Q (open-next g r fs s)
   unfolding open-next
-  keeps-openNext r [] s h = h
-  keeps-openNext r (f ∷ []) s h = keeps-clean r f s h
-  keeps-openNext r (f ∷ f′ ∷ fs) s h = keeps-first s h
+  keeps-open-next r [] s h = h
+  keeps-open-next r (f ∷ []) s h = keeps-clean r f s h
+  keeps-open-next r (f ∷ f′ ∷ fs) s h = keeps-first s h
 
-  pub keeps-makeRoom : (r : BlockOrder) (s : State) → Q s → Q (make-room g r s)
+  pub keeps-make-room : (r : BlockOrder) (s : State) → Q s → Q (make-room g r s)
   unfolding make-room
-  keeps-makeRoom r s h = go (has-room s)
+  keeps-make-room r s h = go (has-room s)
     where
       go : (b : Bool) → Q (elim b [ true ↦ s | false ↦ open-next g r (blocks-in Free (close-open s)) (close-open s) ])
       go true = h
-      go false = keeps-openNext r _ (close-open s) (keeps-close s h)
+      go false = keeps-open-next r _ (close-open s) (keeps-close s h)
 
   pub keeps-store : (q : Page) (s : State) → Q s → Q (store q s)
   unfolding store
@@ -86,9 +83,9 @@ module _ (g : Settings) (Q : State → Type 0) (st : Stable g Q) where
       go [] = h
       go (b ∷ bs) = st .by-program b q s h
 
-  pub keeps-away : (b : ℕ) (u : Use) (s : State) → busy u ≡ true → Busy s b → Q s → Q (clear-out g b u s)
+  pub keeps-clear-out : (b : ℕ) (u : Use) (s : State) → busy u ≡ true → Busy s b → Q s → Q (clear-out g b u s)
   unfolding clear-out
-  keeps-away b u s hu hb h = go (live-pages s b)
+  keeps-clear-out b u s hu hb h = go (live-pages s b)
     where
       go₁ : (o : Option BlockRecord) → Q (elim o [ None ↦ s | Some d ↦ move g b (d .number) u s ])
       go₁ None = h
@@ -98,16 +95,16 @@ module _ (g : Settings) (Q : State → Type 0) (st : Stable g Q) where
       go [] = st .by-erase b s hb h
       go (_ ∷ _) = go₁ (first-free s)
 
-  pub keeps-collect1 : (b : ℕ) (s : State) → Q s → Q (collect-block g b s)
+  pub keeps-collect-block : (b : ℕ) (s : State) → Q s → Q (collect-block g b s)
   unfolding collect-block
-  keeps-collect1 b s h = go (getD (s .uses) b Free) refl
+  keeps-collect-block b s h = go (getD (s .uses) b Free) refl
     where
       go : (u : Use) → getD (s .uses) b Free ≡ u → Q (elim u [ Free ↦ s | Open ↦ clear-out g b Open s | Closed ↦ clear-out g b Closed s ])
       go Free e = h
-      go Open e = keeps-away b Open s refl (ap busy e) h
-      go Closed e = keeps-away b Closed s refl (ap busy e) h
+      go Open e = keeps-clear-out b Open s refl (ap busy e) h
+      go Closed e = keeps-clear-out b Closed s refl (ap busy e) h
 
   pub keeps-collect : (bs : List ℕ) (s : State) → Q s → Q (collect g bs s)
   unfolding collect
   keeps-collect [] s h = h
-  keeps-collect (b ∷ bs) s h = keeps-collect bs (collect-block g b s) (keeps-collect1 b s h)
+  keeps-collect (b ∷ bs) s h = keeps-collect bs (collect-block g b s) (keeps-collect-block b s h)

@@ -1,22 +1,22 @@
 -- The lengths of the tables, the age marks and the rounds, kept by every step.
-use mathlib.Core.Path.{_≡_, refl, sym, ap, _∙_, subst}
-use mathlib.Core.Bool.{Bool, true, false, cond, _||_}
+use mathlib.Core.Path.{_≡_, refl, ap, _∙_}
+use mathlib.Core.Bool.{Bool, true, false}
 use mathlib.Core.List.{List, [], _∷_, _++_}
-use Prim.Native.Nat.{ℕ, zero, suc, _+_, _*_, _≤_, _<_}
+use Prim.Native.Nat.{ℕ, zero, suc, _+_, _≤_, _<_}
 use native.Mathlib.Omega.{arith}
 use native.Mathlib.Nat.{mul-le-mul-right}
-use lib.Dec.{eqb, ltb}
+use lib.Dec.{eqb}
 use lib.ListN.{length, getD, set}
 use Rattle.std.proofs.shelf.Lists.{length-set}
-use Rattle.std.proofs.shelf.Ways.{tells}
-use Rattle.flash.specs.Meaning.{Block, Page, no-block}
+use Rattle.flash.specs.Meaning.{Block, no-block}
 use Rattle.rules.specs.declared.Settings.{Settings}
-use Rattle.rules.specs.Tables.{Meter, State}
+use Rattle.rules.specs.Tables.{State}
 use Rattle.rules.specs.Steps.{use-block, program-page, count-erase, erase-block}
 use Rattle.rules.specs.Levelling.{set-blocks, sought, turn-to, end-round, even, collect-next, level-in}
 use Rattle.rules.specs.WellFormed.{erases-in, erases-of}
-use Rattle.rules.proofs.Words.{held, Busy}
+use Rattle.rules.proofs.Words.{held}
 use Rattle.rules.proofs.Frame.{busy-below}
+use Rattle.rules.proofs.Levels.{not-even}
 use Rattle.rules.proofs.Stable.{Stable, keeps-collect}
 
 -- what every step keeps, levelling keeps
@@ -84,13 +84,10 @@ module _ (g : Settings) (l n : ℕ) where
   unfolding turn-to
   booked-turn i s h = record { mapped = h .mapped; marked = h .marked; past = h .past; paid = h .paid; blocks = h .blocks; tables = h .tables }
 
-  not-even : (m : Meter) → even g m ≡ false → (1 ≤ m .fcnt) × (g .threshold * m .fcnt ≤ m .ecnt)
-  not-even m e = (grind (arith, tells), grind (arith, tells))
-
   booked-round : 1 ≤ g .threshold → (s : State) → even g (s .meter) ≡ false → Booked l n s → Booked l n (end-round s)
   unfolding end-round
   booked-round pos s e h =
-      let ne = not-even (s .meter) e in
+      let ne = not-even g (s .meter) e in
       let some : 1 ≤ s .meter .ecnt = omega (arith, ne .0, ne .1, mul-le-mul-right (s .meter .fcnt) pos) in
       record { mapped = h .mapped; marked = h .marked; past = λ b. omega (arith, h .past b); paid = omega (arith, h .paid); blocks = h .blocks; tables = h .tables }
 

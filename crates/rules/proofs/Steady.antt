@@ -1,49 +1,34 @@
 -- The map names written pages of the right tag, after erases and moves too.
 use mathlib.Core.Path.{_≡_, refl, sym, ap, _∙_, subst}
-use mathlib.Core.Bool.{Bool, true, false, cond, not}
-use mathlib.Core.List.{List, [], _∷_, _++_, map}
-use mathlib.Core.Logic.{_⊎_, inl, inr}
-use Prim.Native.Nat.{ℕ, zero, suc, _+_, _*_, _/_, _≤_, _<_}
+use mathlib.Core.Bool.{Bool, true, false, cond}
+use mathlib.Core.List.{List, [], _∷_}
+use Prim.Native.Nat.{ℕ, zero, suc, _+_, _<_}
 use native.Mathlib.Omega.{arith}
-use lib.Dec.{T, eqb}
 use lib.ListN.{length, getD, set}
-use Rattle.std.specs.shelf.Lists.{All}
 use Rattle.std.specs.declared.option.Option.{Option}
 use Rattle.std.specs.declared.option.Option.the-variants.{Some, None}
-use Rattle.std.proofs.shelf.Lists.{length-set, getD-set-same, getD-set-other}
-use Rattle.std.proofs.shelf.Tests.{cases-eq}
-use Rattle.orders.specs.declared.block.BlockRecord.{BlockRecord}
-use Rattle.orders.specs.Ranks.{least-erased}
-use Rattle.flash.specs.Meaning.{Page, Block, Op, program, erase, no-block, no-page}
+use Rattle.std.proofs.shelf.Lists.{length-set, getD-set-other}
+use Rattle.flash.specs.Meaning.{Page, Block, no-block, no-page}
 use Rattle.rules.specs.declared.Settings.{Settings}
 use Rattle.rules.specs.declared.Place.{Place}
 use Rattle.rules.specs.declared.Use.{Use}
-use Rattle.rules.specs.declared.Use.the-variants.{Free, Open, Closed}
-use Rattle.rules.specs.Tables.{Meter, State, set-size}
-use Rattle.rules.specs.Blocks.{BlockOrder, same-use, blocks-in, names, live-from, live-pages, record-of, better, first, first-free, head-of}
-use Rattle.rules.specs.Steps.{use-block, program-page, count-erase, erase-block, copy, move, clean, close-open, open-first, open-next, has-room, make-room, store}
-use Rattle.rules.specs.Levelling.{set-blocks, clear-out, collect-block, collect, next, seek, sought, turn-to, end-round, even, collect-next, level-in}
-use Rattle.rules.specs.WellFormed.{ones, busy}
-use Rattle.rules.proofs.Words.{held, counted, Busy, SomeFree, Freed, Sized, Ready, Between}
-use Rattle.rules.proofs.Frame.{copy-uses, first-of, of-use, recs-use, Of}
-use Rattle.rules.proofs.Flags.{true-is-not-false}
-use Rattle.rules.proofs.Copies.{at, pageAt, named, Valid, Copied, copies, here-not, program-chip}
+use Rattle.rules.specs.declared.Use.the-variants.{Free}
+use Rattle.rules.specs.Tables.{State}
+use Rattle.rules.specs.Blocks.{names, live-from, live-pages}
+use Rattle.rules.specs.Steps.{use-block, program-page, erase-block, copy, move}
+use Rattle.rules.proofs.Words.{held}
+use Rattle.rules.proofs.Frame.{copy-uses}
+use Rattle.rules.proofs.Flags.{nil-is-not-cons}
+use Rattle.rules.proofs.Copies.{at, named, Valid, copies, names-not, program-chip}
 
-cons-not-nil : {A X : Type 0} (x : X) (xs : List X) → x ∷ xs ≡ [] → A
-cons-not-nil {A} {X} x xs h = absurd (subst P h tt)
-  where
-    P : List X → Type 0
-    P [] = ⊥
-    P (_ ∷ _) = Unit {0}
-
-none-living : (m : List (Option Place)) (b : ℕ) (ps : List Page) (i j t : ℕ) → live-from m b i ps ≡ [] → getD m t None ≡ Some (at b (i + j)) → j < length ps → getD ps j no-page .tag ≡ t → ⊥
-none-living m b [] i j t e h l g = omega arith
-none-living m b (q ∷ qs) i j t e h l g = go (none-living m b qs (suc i)) j h l g (names (getD m (q .tag) None) b i) refl
+none-live : (m : List (Option Place)) (b : ℕ) (ps : List Page) (i j t : ℕ) → live-from m b i ps ≡ [] → getD m t None ≡ Some (at b (i + j)) → j < length ps → getD ps j no-page .tag ≡ t → ⊥
+none-live m b [] i j t e h l g = omega arith
+none-live m b (q ∷ qs) i j t e h l g = go (none-live m b qs (suc i)) j h l g (names (getD m (q .tag) None) b i) refl
   where
     go : ((j t : ℕ) → live-from m b (suc i) qs ≡ [] → getD m t None ≡ Some (at b (suc i + j)) → j < length qs → getD qs j no-page .tag ≡ t → ⊥)
         → (j : ℕ) → getD m t None ≡ Some (at b (i + j)) → j < length (q ∷ qs) → getD (q ∷ qs) j no-page .tag ≡ t → (v : Bool) → names (getD m (q .tag) None) b i ≡ v → ⊥
-    go rec j h l g true w = cons-not-nil q (live-from m b (suc i) qs) (subst (λ v. cond v (q ∷ live-from m b (suc i) qs) (live-from m b (suc i) qs) ≡ []) w e)
-    go rec zero h l g false w = here-not (getD m (q .tag) None) b i w (ap (λ y. getD m y None) g ∙ h ∙ ap (λ y. Some (at b y)) (omega arith))
+    go rec j h l g true w = nil-is-not-cons q (live-from m b (suc i) qs) (subst (λ v. cond v (q ∷ live-from m b (suc i) qs) (live-from m b (suc i) qs) ≡ []) w e)
+    go rec zero h l g false w = names-not (getD m (q .tag) None) b i w (ap (λ y. getD m y None) g ∙ h ∙ ap (λ y. Some (at b y)) (omega arith))
     go rec (suc j) h l g false w = rec j t (subst (λ v. cond v (q ∷ live-from m b (suc i) qs) (live-from m b (suc i) qs) ≡ []) w e) (h ∙ ap (λ y. Some (at b y)) (omega arith)) (omega arith) g
 
 -- the map names written pages of the right tag, and the chip is as long as the tables
@@ -51,7 +36,7 @@ pub record Holding (s : State) : Type 0 where
   pub valid : Valid s
   pub long : length (s .chip .blocks) ≡ length (s .uses)
 
-copy-chip : (d : ℕ) (qs : List Page) (s : State) → length (copy d qs s .chip .blocks) ≡ length (s .chip .blocks)
+pub copy-chip : (d : ℕ) (qs : List Page) (s : State) → length (copy d qs s .chip .blocks) ≡ length (s .chip .blocks)
 unfolding copy
 copy-chip d [] s = refl
 copy-chip d (q ∷ qs) s = copy-chip d qs (program-page d q s) ∙ program-chip d q s .0
@@ -72,9 +57,9 @@ module _ (g : Settings) where
       other : (t x i : ℕ) → named s t x i → getD (set (s .chip .blocks) b (record { count = suc (held s b .count); pages = [] })) x no-block ≡ held s x
       other t x i nm = getD-set-other (s .chip .blocks) b x _ no-block (λ e. gone t i (subst (λ y. named s t y i) e nm))
 
-  pub holding-dead : (b : ℕ) (s : State) → live-pages s b ≡ [] → Holding s → Holding (erase-block g b s)
-  holding-dead b s e h = holding-erase b s (λ u k nm. let o = h .valid u b k nm in
-      none-living (s .places) b (held s b .pages) 0 k u e (nm ∙ ap (λ y. Some (at b y)) (omega arith)) (o .0) (o .1)) h
+  pub holding-no-live : (b : ℕ) (s : State) → live-pages s b ≡ [] → Holding s → Holding (erase-block g b s)
+  holding-no-live b s e h = holding-erase b s (λ u k nm. let o = h .valid u b k nm in
+      none-live (s .places) b (held s b .pages) 0 k u e (nm ∙ ap (λ y. Some (at b y)) (omega arith)) (o .0) (o .1)) h
 
   pub holding-move : (b d : ℕ) (u : Use) (s : State) → (b ≡ d → ⊥) → d < length (s .uses) → Holding s → Holding (move g b d u s)
   unfolding move

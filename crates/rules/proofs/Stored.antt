@@ -1,32 +1,27 @@
 -- A write up to its levelling, and with it: one block at most is open, and the map names written pages.
-use mathlib.Core.Path.{_≡_, refl, sym, ap, _∙_, subst}
+use mathlib.Core.Path.{_≡_, sym, ap, _∙_, subst}
 use mathlib.Core.List.{List, [], _∷_}
 use mathlib.Core.Logic.{_⊎_, inl, inr}
-use mathlib.Core.Bool.{Bool, true, false, cond}
-use Prim.Native.Nat.{ℕ, zero, suc, _+_, _*_, _≤_, _<_}
+use mathlib.Core.Bool.{Bool, true, false}
+use Prim.Native.Nat.{ℕ, suc, _*_, _≤_, _<_}
 use native.Mathlib.Omega.{arith}
 use lib.Dec.{eqb}
 use lib.ListN.{length, getD}
 use Rattle.std.specs.shelf.Lists.{All}
-use Rattle.std.specs.declared.option.Option.{Option}
 use Rattle.std.specs.declared.option.Option.the-variants.{Some, None}
-use Rattle.std.proofs.shelf.Ways.{tells}
 use Rattle.std.proofs.shelf.Lists.{getD-set-same}
 use Rattle.flash.specs.Meaning.{Page}
 use Rattle.rules.specs.declared.Settings.{Settings}
-use Rattle.rules.specs.declared.Use.{Use}
-use Rattle.rules.specs.declared.Use.the-variants.{Free, Open, Closed}
+use Rattle.rules.specs.declared.Use.the-variants.{Open}
 use Rattle.rules.specs.Tables.{Meter, State, set-size}
 use Rattle.rules.specs.Blocks.{BlockOrder, blocks-in, head-of}
 use Rattle.rules.specs.Steps.{program-page, count-erase, make-room, store}
 use Rattle.rules.specs.Levelling.{even, end-round, collect-next, level-in}
-use Rattle.rules.specs.WellFormed.{ones}
-use Rattle.rules.proofs.Words.{Sized, Ready, Between}
-use Rattle.rules.proofs.Flags.{true-is-not-false}
+use Rattle.rules.proofs.Words.{Ready, Between}
 use Rattle.rules.proofs.Rooms.{In}
 use Rattle.rules.proofs.Writes.{of-below, ones-some, closes, rooms, stores}
 use Rattle.rules.proofs.Ends.{Levelled, levels, between-even}
-use Rattle.rules.proofs.Copies.{Valid, valid-program, program-chip}
+use Rattle.rules.proofs.Copies.{valid-program, program-chip}
 use Rattle.rules.proofs.Steady.{Holding}
 use Rattle.rules.proofs.Settled.{OneOpen, settle-level, holding-settled}
 use Rattle.rules.proofs.Opened.{Opened, open-in, one-settled, room-opened}

@@ -12,19 +12,17 @@ use Rattle.std.specs.declared.option.Option.the-variants.{None}
 use Rattle.std.proofs.shelf.Lists.{length-set, getD-set-same, getD-set-other, length-push}
 use Rattle.std.proofs.shelf.Elements.{all-push}
 use Rattle.std.proofs.shelf.Tests.{cases-eq}
-use Rattle.orders.specs.declared.block.BlockRecord.{BlockRecord}
-use Rattle.orders.specs.Ranks.{least-erased}
-use Rattle.flash.specs.Meaning.{Flash, Page, PageFits, Block, Op, program, erase, no-block, no-page}
+use Rattle.flash.specs.Meaning.{Flash, Page, PageFits, Block, program, erase, no-block}
 use Rattle.rules.specs.declared.Settings.{Settings}
 use Rattle.rules.specs.declared.Place.{Place}
 use Rattle.rules.specs.declared.Use.{Use}
-use Rattle.rules.specs.declared.Use.the-variants.{Free, Open, Closed}
-use Rattle.rules.specs.Tables.{Meter, State, set-size}
-use Rattle.rules.specs.Blocks.{BlockOrder, same-use, blocks-in, names, live-from, live-pages, record-of, better, first, first-free, head-of}
-use Rattle.rules.specs.Steps.{use-block, program-page, count-erase, erase-block, copy, move, clean, close-open, open-first, open-next, has-room, make-room, store}
-use Rattle.rules.specs.Levelling.{set-blocks, clear-out, collect-block, collect, next, seek, sought, turn-to, end-round, even, collect-next, level-in}
-use Rattle.rules.specs.WellFormed.{ones, busy}
-use Rattle.rules.proofs.Words.{held, counted, Busy, SomeFree, Freed, Sized, Ready, Between}
+use Rattle.rules.specs.declared.Use.the-variants.{Free}
+use Rattle.rules.specs.Tables.{State}
+use Rattle.rules.specs.Blocks.{names, live-from, live-pages}
+use Rattle.rules.specs.Steps.{use-block, program-page, erase-block, copy, move}
+use Rattle.rules.specs.Levelling.{turn-to, end-round}
+use Rattle.rules.specs.WellFormed.{busy}
+use Rattle.rules.proofs.Words.{held, Busy}
 use Rattle.rules.proofs.Frame.{busy-below}
 use Rattle.rules.proofs.Flags.{true-is-not-false}
 use Rattle.rules.proofs.Collects.{move-uses}
@@ -48,24 +46,24 @@ pub record Sure (n p d : ℕ) (was : Flash) (s : State) : Type 0 where
   pub blanks : (b : ℕ) → getD (s .uses) b Free ≡ Free → length (held s b .pages) ≡ 0
   pub runs : Runs n p d (s .log) was (s .chip)
 
-alive-all : (P : Page → Type 0) (m : List (Option Place)) (b i : ℕ) (ps : List Page) → All P ps → All P (live-from m b i ps)
-alive-all P m b i [] h = tt
-alive-all P m b i (q ∷ qs) h = go (alive-all P m b (suc i) qs (h .1)) (names (getD m (q .tag) None) b i)
+live-all : (P : Page → Type 0) (m : List (Option Place)) (b i : ℕ) (ps : List Page) → All P ps → All P (live-from m b i ps)
+live-all P m b i [] h = tt
+live-all P m b i (q ∷ qs) h = go (live-all P m b (suc i) qs (h .1)) (names (getD m (q .tag) None) b i)
   where
     go : All P (live-from m b (suc i) qs) → (v : Bool) → All P (cond v (q ∷ live-from m b (suc i) qs) (live-from m b (suc i) qs))
     go r true = (h .0, r)
     go r false = r
 
-alive-short : (m : List (Option Place)) (b i : ℕ) (ps : List Page) → length (live-from m b i ps) ≤ length ps
-alive-short m b i [] = omega arith
-alive-short m b i (q ∷ qs) = go (alive-short m b (suc i) qs) (names (getD m (q .tag) None) b i)
+live-from-short : (m : List (Option Place)) (b i : ℕ) (ps : List Page) → length (live-from m b i ps) ≤ length ps
+live-from-short m b i [] = omega arith
+live-from-short m b i (q ∷ qs) = go (live-from-short m b (suc i) qs) (names (getD m (q .tag) None) b i)
   where
     go : length (live-from m b (suc i) qs) ≤ length qs → (v : Bool) → length (cond v (q ∷ live-from m b (suc i) qs) (live-from m b (suc i) qs)) ≤ suc (length qs)
     go r true = omega arith
     go r false = omega arith
 
 pub live-short : (s : State) (b : ℕ) → length (live-pages s b) ≤ length (held s b .pages)
-live-short s b = alive-short (s .places) b 0 (held s b .pages)
+live-short s b = live-from-short (s .places) b 0 (held s b .pages)
 
 module _ (n p d : ℕ) (was : Flash) where
   -- pages that go to block c, up to k of them there
@@ -165,7 +163,7 @@ module _ (n p d : ℕ) (was : Flash) where
         bn = omega (arith, busy-below s b hb, h .tables)
 
         fl : Filled c (length (held s c .pages) + length (live-pages s b)) s t
-        fl = fill c (live-pages s b) s (omega (arith, h .tables)) (h .chips) (h .good) (h .runs) (alive-all (Long d) (s .places) b 0 (held s b .pages) (h .good b .1))
+        fl = fill c (live-pages s b) s (omega (arith, h .tables)) (h .chips) (h .good) (h .runs) (live-all (Long d) (s .places) b 0 (held s b .pages) (h .good b .1))
             (omega (arith, h .blanks c hc, live-short s b, h .good b .0))
 
         bc : b < length (t .chip .blocks)

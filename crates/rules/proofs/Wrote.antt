@@ -1,41 +1,38 @@
 -- An accepted write on a well-formed leveller: all that it keeps.
 use mathlib.Core.Path.{_≡_, refl, sym, ap, _∙_, subst}
-use mathlib.Core.Bool.{Bool, true, false, not, _&&_}
+use mathlib.Core.Bool.{true, false, _&&_}
 use mathlib.Core.List.{List, [], _∷_}
 use mathlib.Core.Logic.{_⊎_, inl, inr}
-use Prim.Native.Nat.{ℕ, zero, suc, _+_, _-_, _*_, _/_, _%_, _≤_, _<_}
+use Prim.Native.Nat.{ℕ, suc, _-_, _*_, _%_, _≤_, _<_}
 use native.Mathlib.Omega.{arith}
 use lib.Dec.{leb, eqb}
 use lib.ListN.{length, getD}
-use Rattle.std.specs.declared.option.Option.{Option}
-use Rattle.std.specs.declared.option.Option.the-variants.{Some, None}
+use Rattle.std.specs.declared.option.Option.the-variants.{Some}
 use Rattle.std.proofs.shelf.Lists.{getD-past}
 use Rattle.std.proofs.shelf.Tests.{cases-lt}
 use Rattle.orders.specs.declared.block.BlockRecord.{BlockRecord}
-use Rattle.flash.specs.declared.Geometry.{Geometry}
 use Rattle.flash.specs.Limits.{between, within}
-use Rattle.flash.specs.Meaning.{Flash, Block, Page, PageFits, BlockFits, block, no-block, no-page, page-of, geometry-of, WellFormed as ChipFits}
+use Rattle.flash.specs.Meaning.{Flash, Block, PageFits, block, no-block, no-page, page-of, WellFormed as ChipFits}
 use Rattle.rules.specs.declared.Settings.{Settings}
-use Rattle.rules.specs.declared.Use.{Use}
-use Rattle.rules.specs.declared.Use.the-variants.{Free, Open, Closed}
-use Rattle.rules.specs.Tables.{Meter, Tables, State, set-size, begin, tables-of}
+use Rattle.rules.specs.declared.Use.the-variants.{Free, Closed}
+use Rattle.rules.specs.Tables.{Tables, State, set-size, begin, tables-of}
 use Rattle.rules.specs.Blocks.{BlockOrder, blocks-in, live-pages, records, first}
 use Rattle.rules.specs.Steps.{close-open, make-room, store}
 use Rattle.rules.specs.Levelling.{even, level-in, level}
 use Rattle.rules.specs.Calls.{is-worn, writing}
 use Rattle.rules.specs.Obeyed.{obeyed}
-use Rattle.rules.specs.WellFormed.{Fitting, WellFormed, erases-of}
+use Rattle.rules.specs.WellFormed.{Fitting, WellFormed}
 use Rattle.rules.specs.Laws.{VictimOrder, before-levelling, times-erased}
-use Rattle.rules.proofs.Words.{held, counted, Sized, Ready, Between}
+use Rattle.rules.proofs.Words.{counted, Ready, Between}
 use Rattle.rules.proofs.Ends.{Levelled, between-even, level-more}
 use Rattle.rules.proofs.Settled.{OneOpen}
 use Rattle.rules.proofs.Steady.{Holding}
-use Rattle.rules.proofs.Stable.{keeps-makeRoom, keeps-store}
+use Rattle.rules.proofs.Stable.{keeps-make-room, keeps-store}
 use Rattle.rules.proofs.Runs.{Shaped, own-shape, runs-shaped, runs-obeyed, runs-times}
 use Rattle.rules.proofs.Sures.{Long, Good, Sure}
 use Rattle.rules.proofs.Spaces.{levelled-sure, gains, close-sure, close-places}
 use Rattle.rules.proofs.Opened.{closes-open}
-use Rattle.rules.proofs.Grows.{AtMost, grows}
+use Rattle.rules.proofs.Grows.{grows}
 use Rattle.rules.proofs.Stays.{Booked, booked-stable, booked-level}
 use Rattle.rules.proofs.Stored.{wide, levelled-write, stored-ready, held-write}
 use Rattle.rules.proofs.Fits.{InNumbers, in-numbers, size-pred, not-worn, all-at, all-by}
@@ -102,7 +99,7 @@ module _ (r : BlockOrder) (x : Tables) (f : Flash) (k : WellFormed x f) (t : ℕ
     fitting-page = record { tagged = omega (arith, tl, num .tags); sized = bl }
 
     roomed : Booked (x .settings .logical) (length (f .blocks)) (make-room (x .settings) r (begin x f))
-    roomed = keeps-makeRoom (x .settings) (Booked (x .settings .logical) (length (f .blocks))) (booked-stable (x .settings) (x .settings .logical) (length (f .blocks))) r (begin x f) (begin-booked x f k)
+    roomed = keeps-make-room (x .settings) (Booked (x .settings .logical) (length (f .blocks))) (booked-stable (x .settings) (x .settings .logical) (length (f .blocks))) r (begin x f) (begin-booked x f k)
 
     in-level : Wrote x f (level-in (suc (length (x .meter .flags))) (x .settings) (before-levelling r x f t bytes))
     in-level =

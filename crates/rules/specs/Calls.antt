@@ -1,25 +1,23 @@
 -- The one outcome of each call of a leveller, for all arguments: start, write, read, discard.
 -- A call tries its refusals in rising number; the first that applies is its answer, and all is as it was.
-use mathlib.Core.Bool.{Bool, true, false, cond, not, _&&_, _||_}
-use mathlib.Core.List.{List, [], _∷_, map}
-use Prim.Native.Nat.{ℕ, _-_, _*_, _/_, _%_, _^_}
+use mathlib.Core.Bool.{Bool, true, false, not, _&&_, _||_}
+use mathlib.Core.List.{List, [], _∷_}
+use Prim.Native.Nat.{ℕ, _-_, _*_, _/_, _%_}
 use lib.Dec.{eqb, leb, ltb}
 use lib.ListN.{length, getD, set, replicate}
 use Rattle.std.specs.shelf.Lists.{sumBy}
 use Rattle.std.specs.declared.option.Option.{Option}
 use Rattle.std.specs.declared.option.Option.the-variants.{Some, None}
-use Rattle.std.specs.declared.result.Result.{Result}
 use Rattle.std.specs.declared.result.Result.the-variants.{Ok, Err}
 use Rattle.flash.specs.Limits.{between, within}
-use Rattle.flash.specs.Meaning.{Flash, Page, Block, Op, program, erase, page, page-of, geometry-of}
+use Rattle.flash.specs.Meaning.{Flash, Block, Op, program, erase, page, page-of, geometry-of}
 use Rattle.rules.specs.declared.Settings.{Settings}
 use Rattle.rules.specs.declared.Place.{Place}
-use Rattle.rules.specs.declared.Use.{Use}
-use Rattle.rules.specs.declared.Use.the-variants.{Free, Open, Closed}
+use Rattle.rules.specs.declared.Use.the-variants.{Free}
 use Rattle.rules.specs.declared.Written.{Written}
 use Rattle.rules.specs.declared.Refusal.{Refusal}
 use Rattle.rules.specs.declared.Refusal.the-variants.{AlreadyStarted, OutsideLimits, UnevenSets, WrongThreshold, WrongLogical, NotBlank, NotStarted, NoSuchPage, WrongLength, WornOut, Empty}
-use Rattle.rules.specs.Tables.{Meter, Tables, State, Leveller, Outcome, begin, tables-of, set-size}
+use Rattle.rules.specs.Tables.{Tables, State, Leveller, Outcome, begin, tables-of, set-size}
 use Rattle.rules.specs.Blocks.{BlockOrder}
 use Rattle.rules.specs.Steps.{make-room, store}
 use Rattle.rules.specs.Levelling.{level}

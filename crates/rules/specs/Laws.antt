@@ -8,20 +8,18 @@
 --   Search-ends       the search for a clear flag ends at one, wherever there is one
 --   Levelling-ends    levelling ends by itself: it leaves nothing to do, and more turns would change nothing
 use mathlib.Core.Path.{_≡_}
-use mathlib.Core.Bool.{Bool, true, false, cond}
+use mathlib.Core.Bool.{true, false, cond}
 use mathlib.Core.List.{List, [], _∷_}
 use Prim.Native.Nat.{ℕ, suc, _≤_, _<_}
 use lib.Dec.{eqb}
 use lib.ListN.{length, getD}
-use Rattle.std.specs.declared.option.Option.{Option}
 use Rattle.std.specs.declared.option.Option.the-variants.{Some, None}
 use Rattle.orders.specs.declared.block.BlockRecord.{BlockRecord}
 use Rattle.orders.specs.Laws.{Total, Transitive}
 use Rattle.orders.specs.Victims.{Full-last}
-use Rattle.flash.specs.Meaning.{Flash, Page, Op, program, erase, page-of, WellFormed as ChipFits}
+use Rattle.flash.specs.Meaning.{Flash, Op, program, erase, page-of, WellFormed as ChipFits}
 use Rattle.rules.specs.declared.Settings.{Settings}
-use Rattle.rules.specs.Tables.{Meter, Tables, State, Leveller, Outcome, left, begin}
-use Rattle.rules.specs.declared.Use.{Use}
+use Rattle.rules.specs.Tables.{Meter, Tables, State, Leveller, left, begin}
 use Rattle.rules.specs.declared.Use.the-variants.{Free, Closed}
 use Rattle.rules.specs.Blocks.{BlockOrder, blocks-in, live-pages, records, first}
 use Rattle.rules.specs.Steps.{close-open, make-room, store}

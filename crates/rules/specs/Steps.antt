@@ -12,11 +12,9 @@ use mathlib.Core.List.{List, [], _∷_, _++_}
 use Prim.Native.Nat.{ℕ, suc, _/_}
 use lib.Dec.{ltb}
 use lib.ListN.{length, getD, set}
-use Rattle.std.specs.declared.option.Option.{Option}
 use Rattle.std.specs.declared.option.Option.the-variants.{Some, None}
-use Rattle.flash.specs.Meaning.{Page, Op, program, erase, block, programmed, erased}
+use Rattle.flash.specs.Meaning.{Page, program, erase, block, programmed, erased}
 use Rattle.rules.specs.declared.Settings.{Settings}
-use Rattle.rules.specs.declared.Place.{Place}
 use Rattle.rules.specs.declared.Use.{Use}
 use Rattle.rules.specs.declared.Use.the-variants.{Free, Open, Closed}
 use Rattle.rules.specs.Tables.{Meter, State, set-size}

@@ -14,10 +14,9 @@ use Rattle.std.specs.declared.option.Option.the-variants.{Some, None}
 use Rattle.flash.specs.Limits.{within}
 use Rattle.flash.specs.Meaning.{Flash, Block, block, page, geometry-of, WellFormed as ChipFits}
 use Rattle.rules.specs.declared.Settings.{Settings}
-use Rattle.rules.specs.declared.Place.{Place}
 use Rattle.rules.specs.declared.Use.{Use}
 use Rattle.rules.specs.declared.Use.the-variants.{Free, Open, Closed}
-use Rattle.rules.specs.Tables.{Meter, Tables, Leveller, set-size}
+use Rattle.rules.specs.Tables.{Tables, Leveller, set-size}
 use Rattle.rules.specs.Calls.{sets-fit, threshold-fits, logical-fits}
 
 -- How many flags are set.

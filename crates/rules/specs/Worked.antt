@@ -7,10 +7,9 @@ use mathlib.Core.Path.{_≡_, refl}
 use mathlib.Core.Bool.{Bool, true, false}
 use mathlib.Core.List.{List, [], _∷_, _++_, map}
 use Prim.Native.Nat.{ℕ, suc, pred}
-use lib.ListN.{length, getD, replicate}
+use lib.ListN.{getD, replicate}
 use Rattle.std.specs.declared.option.Option.{Option}
 use Rattle.std.specs.declared.option.Option.the-variants.{Some, None}
-use Rattle.std.specs.declared.result.Result.{Result}
 use Rattle.std.specs.declared.result.Result.the-variants.{Ok, Err}
 use Rattle.orders.specs.Ranks.{fewest-live, cost-benefit}
 use Rattle.orders.specs.Worked.{block}
@@ -20,7 +19,6 @@ use Rattle.rules.specs.declared.Place.{Place}
 use Rattle.rules.specs.declared.Use.{Use}
 use Rattle.rules.specs.declared.Use.the-variants.{Free, Open, Closed}
 use Rattle.rules.specs.declared.Written.{Written}
-use Rattle.rules.specs.declared.Refusal.{Refusal}
 use Rattle.rules.specs.declared.Refusal.the-variants.{AlreadyStarted, OutsideLimits, UnevenSets, WrongThreshold, WrongLogical, NotBlank, NotStarted, NoSuchPage, WrongLength, WornOut, Empty}
 use Rattle.rules.specs.Tables.{Meter, Tables, Leveller, Outcome, left}
 use Rattle.rules.specs.Blocks.{BlockOrder}
