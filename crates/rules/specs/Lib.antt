@@ -1,0 +1,10 @@
+pub mod Refusals
+pub mod Tables
+pub mod Blocks
+pub mod Steps
+pub mod Levelling
+pub mod Calls
+pub mod WellFormed
+pub mod Obeyed
+pub mod Laws
+pub mod Worked
