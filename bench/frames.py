@@ -54,10 +54,9 @@ def main():
         with open(line, "wb") as out:
             for _ in range(400):
                 out.write(b"0" * 1_000_000)
+        # GNU time, since a child of this program would count this program's memory as its own
         with open(line) as text:
-            child = subprocess.Popen([FRAMES], stdin=text, stdout=subprocess.PIPE)
-            wrote = child.stdout.read()
-            _, _, usage = os.wait4(child.pid, 0)
+            ran = subprocess.run(["/usr/bin/time", "-f", "%M", FRAMES], stdin=text, capture_output=True, check=True)
         trace = os.path.join(folder, "trace")
         big_trace(trace, 100_000_000)
         same = subprocess.run(["bash", "-c", f"cmp <('{FRAMES}' < '{trace}') <('{plain}' < '{trace}')"])
@@ -66,8 +65,7 @@ def main():
     theirs = statistics.median(t[1] for t in times)
     print("both wrote the same" if same.returncode == 0 else "they DIFFER")
     print(f"100 MB: frames {ours:.2f} s, plain Rust {theirs:.2f} s, ratio {ours / theirs:.2f} (medians of {ROUNDS})")
-    print(f"a line of 400 MB: wrote {wrote.decode().strip()!r}")
-    print(f"its peak memory: {usage.ru_maxrss / 1024:.1f} MB")
+    print(f"a line of 400 MB: wrote {ran.stdout.decode().strip()!r}, peak memory {int(ran.stderr) / 1024:.1f} MB")
 
 
 main()
