@@ -1,5 +1,8 @@
 //! Tells the busiest pages of the trace on standard input: up to eight, busiest first. Where the trace is faulty, the fault comes first,
 //! and the pages are those of what was read before it.
+
+#![tactic(auto)]
+
 use heap::indexed::Heap;
 use heap::node::Node;
 use listing::words::{busy_line, fault_line};

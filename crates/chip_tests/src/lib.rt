@@ -1,4 +1,7 @@
 //! Tests of the chips and of the tools over them, on the emulated chip and on pairs.
+
+#![tactic(auto)]
+
 #[cfg(test)]
 mod chips;
 #[cfg(test)]

@@ -1,4 +1,7 @@
 //! A short exercise on an emulated chip and on a pair of two: each action, and its answer or the number of its refusal.
+
+#![tactic(auto)]
+
 use emulated::Emulated;
 use flash::tools::{copy_page, relocate};
 use flash::{Chip, Geometry, Refusal};

@@ -1,4 +1,7 @@
 //! A flash chip that lies in memory lent by its maker, for tests and for programs that run without a device.
+
+#![tactic(auto)]
+
 ghost use Rattle.std.specs.Prelude.{◌≡◌, ◌+◌, ◌-◌, ◌*◌, ◌%◌, ◌^◌, ◌<◌, ◌≤◌, min, length, take, drop, Ok, slice_index, slice_set};
 ghost use Rattle.std.proofs.Math.Seq.{paste};
 ghost use Rattle.flash.specs.declared.Refusal.TheVariants.{WrongLength};

@@ -2,6 +2,9 @@
 //!
 //! What a chip holds is its ghost `meaning`: N blocks of P pages of D bytes, each block rated for E erases. Every
 //! contract below names the one outcome of its call for all arguments, by equations over that meaning.
+
+#![tactic(auto)]
+
 ghost use Rattle.std.specs.Prelude.{◌≡◌, List, [], ◌∷◌, length, MatchResult};
 ghost use Rattle.flash.specs.Limits.{within};
 ghost use Rattle.flash.specs.Refusals.{number_of};

@@ -1,4 +1,7 @@
 //! Lists the frames of the trace on standard input in words, a line each, and last the fault, where there is one.
+
+#![tactic(auto)]
+
 use listing::words::{fault_line, frame_line};
 use std::io;
 use std::io::{BufWriter, Read, Stdout, Write};

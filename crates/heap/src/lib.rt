@@ -1,3 +1,5 @@
+#![tactic(auto)]
+
 // An indexed binary heap of numbered records, in memory that is lent to it.
 pub mod indexed;
 pub mod node;

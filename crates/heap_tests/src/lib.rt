@@ -1,3 +1,5 @@
+#![tactic(auto)]
+
 // Tests of the orders, the heap and the ranking, and of two heaps in one struct.
 #[cfg(test)]
 mod heap_tests;

@@ -1,3 +1,5 @@
+#![tactic(auto)]
+
 // Records of blocks and pages, and the orders that rank them.
 pub mod block;
 pub mod block_orders;

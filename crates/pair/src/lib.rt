@@ -1,4 +1,7 @@
 //! Two chips as one. A pair holds its chips by value, so pairs of pairs are chips as well.
+
+#![tactic(auto)]
+
 ghost use Rattle.std.specs.Prelude.{◌≡◌};
 ghost use Rattle.flash.specs.Meaning.{ByMeaning, lawful_by_meaning, geometry_of};
 ghost use Rattle.pair.specs.Joined.{joins, joined, split};

@@ -2,6 +2,9 @@
 //!
 //! What start, write, read and discard do is defined in this crate's `specs/`, by definitions that compute.
 //! The functions here carry facts about those definitions into the check.
+
+#![tactic(auto)]
+
 ghost use Rattle.std.specs.Prelude.{◌≡◌};
 ghost use Rattle.rules.specs.Refusals.{number_of};
 

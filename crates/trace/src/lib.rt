@@ -1,4 +1,7 @@
 //! Traces: what a recorded run asks of a leveller, one frame to a line.
+
+#![tactic(auto)]
+
 pub mod fault;
 pub mod frame;
 pub mod line;

@@ -1,4 +1,7 @@
 //! Examples of traces, good and faulty.
+
+#![tactic(auto)]
+
 #[cfg(test)]
 mod frames;
 #[cfg(test)]
