@@ -13,10 +13,10 @@ pub fn copy_page<C: Chip>(
     to: u16,
     buf: &mut [u8],
 ) -> Result<(), Refusal>
-    ensures answer { result ≡ copy_answer (meaning chip.old) block page to (length buf.old) }
-    ensures chip { meaning chip.new ≡ copy_chip (meaning chip.old) block page to (length buf.old) }
-    ensures buffer { buf.new ≡ copy_buffer (meaning chip.old) block page to buf.old }
-    ensures order { MatchResult result (λ _. ran chip.old (programs to (held (meaning chip.old) block page) ∷ []) chip.new) (λ _. chip.new ≡ chip.old) }
+    ensures answer { result ≡ copy_answer (C.meaning chip.old) block page to (length buf.old) }
+    ensures chip { C.meaning chip.new ≡ copy_chip (C.meaning chip.old) block page to (length buf.old) }
+    ensures buffer { buf.new ≡ copy_buffer (C.meaning chip.old) block page to buf.old }
+    ensures order { MatchResult result (λ _. C.ran chip.old (programs to (held (C.meaning chip.old) block page) ∷ []) chip.new) (λ _. chip.new ≡ chip.old) }
 {
     let next = chip.written(to)?;
     if next >= chip.pages() {
@@ -29,7 +29,7 @@ pub fn copy_page<C: Chip>(
 
 /// How many pages moving `block` into the blank block `to` copies, or why it is refused.
 fn pages_to_move<C: Chip>(chip: &C, block: u16, to: u16, len: usize) -> Result<u32, Refusal>
-    ensures { result ≡ relocation (meaning chip.now) block to len }
+    ensures { result ≡ relocation (C.meaning chip.now) block to len }
 {
     let pages = chip.written(block)?;
     if chip.written(to)? != 0 {
@@ -46,10 +46,10 @@ fn pages_to_move<C: Chip>(chip: &C, block: u16, to: u16, len: usize) -> Result<u
 
 /// Moves a block into the blank block `to`: copies its pages in rising order, then erases it.
 pub fn relocate<C: Chip>(chip: &mut C, block: u16, to: u16, buf: &mut [u8]) -> Result<(), Refusal>
-    ensures answer { result ≡ relocate_answer (meaning chip.old) block to (length buf.old) }
-    ensures chip { meaning chip.new ≡ relocate_chip (meaning chip.old) block to (length buf.old) }
-    ensures buffer { buf.new ≡ relocate_buffer (meaning chip.old) block to buf.old }
-    ensures order { MatchResult result (λ _. ran chip.old (moves (meaning chip.old) block to) chip.new) (λ _. chip.new ≡ chip.old) }
+    ensures answer { result ≡ relocate_answer (C.meaning chip.old) block to (length buf.old) }
+    ensures chip { C.meaning chip.new ≡ relocate_chip (C.meaning chip.old) block to (length buf.old) }
+    ensures buffer { buf.new ≡ relocate_buffer (C.meaning chip.old) block to buf.old }
+    ensures order { MatchResult result (λ _. C.ran chip.old (moves (C.meaning chip.old) block to) chip.new) (λ _. chip.new ≡ chip.old) }
 {
     let pages = pages_to_move(chip, block, to, buf.len())?;
     for page in 0..pages {

@@ -1,6 +1,6 @@
 -- How the bytes of a text come one after another.
 use Rattle.std.proofs.Common.{◌≡◌, ℕ, suc, ◌+◌, ◌*◌, ◌/◌, ◌%◌, ◌<◌, ◌≤◌, Bool, true, false, cond, ◌&&◌, ltb, leb, List, [], ◌∷◌, ◌++◌, length, get_or, drop, Some, None, Option, sym, refl, ap, ◌∙◌, append_assoc, append-nil, arith, drop-cons, le-ltb, lt-ltb, le-leb}
-use borrow.Author.Tests.{lt_leb}
+use borrow.Author.Tests.{lt-leb}
 use Rattle.std.proofs.lemmas.Bool.{cond_both}
 use Rattle.hexadecimal.specs.Text.{pair_value, put, decoded, line_bytes}
 
@@ -42,4 +42,4 @@ pub empty : (n : ℕ) (ds : List ℕ) → length ds ≡ 0 → line_bytes n ds �
 empty n ds h = simp (h)
 
 pub too_long : (n : ℕ) (ds : List ℕ) → 2 * n < length ds → line_bytes n ds ≡ None
-too_long n ds h = simp (lt-ltb 0 (length ds) (omega arith), lt_leb (length ds) (2 * n) h)
+too_long n ds h = simp (lt-ltb 0 (length ds) (omega arith), lt-leb (length ds) (2 * n) h)

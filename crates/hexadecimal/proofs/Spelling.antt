@@ -1,6 +1,6 @@
 -- A text has bytes exactly when it spells them, and a line then has two digits to a byte.
 use Rattle.std.proofs.Common.{◌≡◌, ℕ, ◌+◌, ◌-◌, ◌*◌, ◌/◌, ◌%◌, ◌<◌, ◌≤◌, Bool, true, false, cond, ◌&&◌, ltb, leb, ◌⊎◌, List, [], ◌∷◌, length, Some, None, Option, sym, refl, ap, ◌∙◌, subst, inl, inr, ⊎_elim, arith, le-ltb, lt-ltb, le-leb, leb-true}
-use borrow.Author.Tests.{lt_leb}
+use borrow.Author.Tests.{lt-leb}
 use Rattle.std.proofs.lemmas.Bool.{and_parts, cond_both}
 use Rattle.std.proofs.str.Laws.{order}
 use Rattle.hexadecimal.specs.Text.{within, digit_value, byte_of, pair_value, put, decoded, line_bytes, upper, lower, Digit, Spells, Unspelled}
@@ -13,10 +13,10 @@ within_true : (a b c : ℕ) → a ≤ c → c ≤ b → within a b c ≡ true
 within_true a b c h k = simp (le-leb a c h, le-leb c b k)
 
 within_below : (a b c : ℕ) → c < a → within a b c ≡ false
-within_below a b c h = simp (lt_leb a c h)
+within_below a b c h = simp (lt-leb a c h)
 
 within_above : (a b c : ℕ) → a ≤ c → b < c → within a b c ≡ false
-within_above a b c h k = simp (le-leb a c h, lt_leb c b k)
+within_above a b c h k = simp (le-leb a c h, lt-leb c b k)
 
 within_bounds : (a b c : ℕ) → within a b c ≡ true → (a ≤ c) × (c ≤ b)
 within_bounds a b c e = let h = and_parts (leb a c) (leb c b) e in (leb-true a c h.0, leb-true c b h.1)

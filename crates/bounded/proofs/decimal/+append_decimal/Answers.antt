@@ -14,7 +14,7 @@ returns g t c =
     elim c.if-n-ge10.branch [
       | then-n-ge10 w ↦
           let many : 10 ≤ n = omega (arith, w.if-n-ge10.true) in
-          pushed_more c.if-n-ge10.out c.push.new.self (48 + n % 10) c.push.result (begun ++ decimal (n / 10)) c.push.ensures.room c.push.ensures.keeps (ap held w.out-is ∙ w.append-decimal.ensures)
+          pushed_more c.if-n-ge10.out c.push.new.self (48 + n % 10) c.push.result (begun ++ decimal (n / 10)) c.push.ensures.room c.push.ensures.keeps (ap held w.out-is ∙ w.append_decimal.ensures)
           ∙ ap (take g.row.N) (append_assoc begun (decimal (n / 10)) last ∙ ap (λ l. begun ++ l) (sym (decimal_step n many small)))
       | else-n-ge10 w ↦
           let one : n < 10 = omega (arith, w.if-n-ge10.false) in

@@ -34,8 +34,8 @@ returns-then-page-self c =
     let refused = read_turn c.served-chip.result s b i c.if-block-chip.false c.if-page-chip.false (length old) c.if-page-self.true ∙ ap (λ g. read_answer (view g s) b i (length old)) c.served-chip.ensures in
     record { answer = refused; buffer = ap (λ a. after a (page (emulated s) b i).bytes old) refused }
 
-pub copy-out-requires : goal.copy-out-requires
-copy-out-requires c =
+pub copy_out-requires : goal.copy_out-requires
+copy_out-requires c =
     let s = c.args.self.now in
     let r = c.served-chip.result in
     let room : Room r (length s.tags.now) (length s.bytes.now) = subst (λ g. Room g (length s.tags.now) (length s.bytes.now)) (sym c.served-chip.ensures) (served_room s.geometry _ _) in
@@ -50,8 +50,8 @@ returns c =
     let old = c.args.buf.now in
     let told = read_in r s b i c.if-block-chip.false c.if-page-chip.false (length old) c.if-page-self.false ∙ ap (λ g. read_answer (view g s) b i (length old)) c.served-chip.ensures in
     let there = read_bytes r s b i c.if-block-chip.false c.if-page-chip.false c.if-page-self.false ∙ ap (λ g. (page (view g s) b i).bytes) c.served-chip.ensures in
-    let answer = c.copy-out.ensures.answer ∙ told in
+    let answer = c.copy_out.ensures.answer ∙ told in
     record {
       answer = answer;
-      buffer = c.copy-out.ensures.buffer ∙ ap (λ xs. after c.copy-out.result xs old) there ∙ ap (λ a. after a (page (emulated s) b i).bytes old) answer;
+      buffer = c.copy_out.ensures.buffer ∙ ap (λ xs. after c.copy_out.result xs old) there ∙ ap (λ a. after a (page (emulated s) b i).bytes old) answer;
     }

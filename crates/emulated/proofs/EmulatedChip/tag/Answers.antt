@@ -24,8 +24,8 @@ returns-then-page-self c =
     let i = c.args.page in
     tag_turn c.served-chip.result s b i c.if-block-chip.false c.if-page-chip.false c.if-page-self.true ∙ ap (λ g. tag_answer (view g s) b i) c.served-chip.ensures
 
-pub tag-at-requires : goal.tag-at-requires
-tag-at-requires c =
+pub tag_at-requires : goal.tag_at-requires
+tag_at-requires c =
     let s = c.args.self.now in
     let r = c.served-chip.result in
     let room : Room r (length s.tags.now) (length s.bytes.now) = subst (λ g. Room g (length s.tags.now) (length s.bytes.now)) (sym c.served-chip.ensures) (served_room s.geometry _ _) in
@@ -36,4 +36,4 @@ returns c =
     let s = c.args.self.now in
     let b = c.args.block in
     let i = c.args.page in
-    ap (λ (k : ℕ). Ok k) c.tag-at.ensures ∙ tag_in c.served-chip.result s b i c.if-block-chip.false c.if-page-chip.false c.if-page-self.false ∙ ap (λ g. tag_answer (view g s) b i) c.served-chip.ensures
+    ap (λ (k : ℕ). Ok k) c.tag_at.ensures ∙ tag_in c.served-chip.result s b i c.if-block-chip.false c.if-page-chip.false c.if-page-self.false ∙ ap (λ g. tag_answer (view g s) b i) c.served-chip.ensures

@@ -9,8 +9,8 @@ use Rattle.flash.proofs.Moves.{Movable, movable, copy_goes, page_stays, erase_go
 use Rattle.flash.proofs.tools.relocate.Goals as goal
 
 -- no copy of a relocation that was let begin is refused
-pub returns-in-err-copy-page : goal.returns-in-err-copy-page
-returns-in-err-copy-page g c =
+pub returns-in_err-copy_page : goal.returns-in_err-copy_page
+returns-in_err-copy_page g c =
     let m = g.C.Chip in
     let start = c.args.chip.now in
     let f = m.meaning start in
@@ -18,12 +18,12 @@ returns-in-err-copy-page g c =
     let to = c.args.to in
     let i = c.loop-page.page in
     let n = length c.args.buf.now in
-    let mv = movable f b to n c.in-ok-pages.pages c.in-ok-pages.ensures in
+    let mv = movable f b to n c.in_ok-pages.pages c.in_ok-pages.ensures in
     let lt : i < length (block f b).pages = omega (arith, mv.all, c.loop-page-test.true) in
     let same : length c.loop-page.buf ≡ n = omega (arith, c.loop-page.auto.buf) in
     let is = m.laws.told start c.loop-page.chip _ c.loop-page.invariant.0 in
     let goes = ap (λ h. copy_answer h b i to (length c.loop-page.buf)) is ∙ ap (λ j. copy_answer (applies (copies to (take i (block f b).pages)) f) b i to j) same ∙ copy_goes f (m.laws.formed start) b to n _ mv i lt in
-    absurd (never_both _ tt (c.in-err-copy-page.ensures.answer ∙ goes))
+    absurd (never_both _ tt (c.in_err-copy_page.ensures.answer ∙ goes))
 
 pub loop-page-preserved : goal.loop-page-preserved
 loop-page-preserved g c =
@@ -34,16 +34,16 @@ loop-page-preserved g c =
     let to = c.args.to in
     let i = c.loop-page.page in
     let pages = (block f b).pages in
-    let mv = movable f b to (length c.args.buf.now) c.in-ok-pages.pages c.in-ok-pages.ensures in
+    let mv = movable f b to (length c.args.buf.now) c.in_ok-pages.pages c.in_ok-pages.ensures in
     let lt : i < length pages = omega (arith, mv.all, c.loop-page-test.true) in
     let is = m.laws.told start c.loop-page.chip _ c.loop-page.invariant.0 in
     let same : page (m.meaning c.loop-page.chip) b i ≡ page f b i = ap (λ h. page h b i) is ∙ page_stays f (m.laws.formed start) b to _ _ mv i in
-    let now : m.ran start (copies to (take i pages) ++ (program to (page (m.meaning c.loop-page.chip) b i) ∷ [])) c.copy-page.new.chip =
-    m.laws.further start c.loop-page.chip c.copy-page.new.chip _ _ c.loop-page.invariant.0 c.in-ok-copy-page.ensures.order in
+    let now : m.ran start (copies to (take i pages) ++ (program to (page (m.meaning c.loop-page.chip) b i) ∷ [])) c.copy_page.new.chip =
+    m.laws.further start c.loop-page.chip c.copy_page.new.chip _ _ c.loop-page.invariant.0 c.in_ok-copy_page.ensures.order in
     let ops = ap (λ x. copies to (take i pages) ++ (program to x ∷ [])) same ∙ copies_more pages i to lt in
-    let read = c.in-ok-copy-page.ensures.buffer in
-    let ok = c.in-ok-copy-page.ensures.answer in (
-      subst (λ (os : List Op). m.ran start os c.copy-page.new.chip) ops now,
+    let read = c.in_ok-copy_page.ensures.buffer in
+    let ok = c.in_ok-copy_page.ensures.answer in (
+      subst (λ (os : List Op). m.ran start os c.copy_page.new.chip) ops now,
       read ∙ ap (λ a. after a (page (m.meaning c.loop-page.chip) b i).bytes c.loop-page.buf) (sym ok) ∙ ap (λ (x : Page). x.bytes) same ∙ sym (last_more pages i c.args.buf.now lt),
     )
 
@@ -57,8 +57,8 @@ returns g c =
     let i = c.loop-page.page in
     let old = c.args.buf.now in
     let pages = (block f b).pages in
-    let begun = c.in-ok-pages.ensures in
-    let mv = movable f b to (length old) c.in-ok-pages.pages begun in
+    let begun = c.in_ok-pages.ensures in
+    let mv = movable f b to (length old) c.in_ok-pages.pages begun in
     let le : length pages ≤ i = omega (arith, mv.all) in
     let all : take i pages ≡ pages = take_all i pages le in
     let is = m.laws.told start c.loop-page.chip _ c.loop-page.invariant.0 in

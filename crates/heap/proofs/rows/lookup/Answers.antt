@@ -19,8 +19,8 @@ returns g c =
     let m = c.args.m in
     let e = places_long xs in
     let near : m < length (places xs) = omega arith in
-    let at = c.place-of-place.ensures in
+    let at = c.place_of-place.ensures in
     let taken : get_or (places xs) m 0 < c.args.len = omega arith in
-    let back : get_or (names xs) (get_or (places xs) m 0) 0 ≡ m = ap (λ p. get_or (names xs) p 0) (sym at) ∙ sym c.name-at.ensures ∙ c.if-name-at-m.false in
+    let back : get_or (names xs) (get_or (places xs) m 0) 0 ≡ m = ap (λ p. get_or (names xs) p 0) (sym at) ∙ sym c.name_at.ensures ∙ c.if-name_at-m.false in
     maps.present xs c.args.len m _ (and_from _ _ (lt-ltb m _ near) (and_from _ _ (lt-ltb _ _ taken) (eq-eqb _ m back))) c.if-m-nodes.false
     (λ d. sym (get_or-map (λ x. x.record) xs m c.index-nodes-m.result d c.if-m-nodes.false))

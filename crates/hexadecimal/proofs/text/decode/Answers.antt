@@ -5,20 +5,20 @@ use Rattle.hexadecimal.specs.Text.{decoded, put, line_bytes}
 use Rattle.hexadecimal.proofs.Decodes.{before, before_put, decoded_pair, decoded_odd, refused, bounded, empty, too_long}
 use Rattle.hexadecimal.proofs.Spelling.{line_spells, line_unspelled}
 use Rattle.hexadecimal.proofs.text.decode.Goals as goal
-use Rattle.hexadecimal.proofs.text.decode.Goals.{then-is-empty-via-then-is-empty, then-is-empty-via-else-is-empty+then-line-ne0, then-is-empty-via-else-is-empty+else-line-ne0+then-count}
+use Rattle.hexadecimal.proofs.text.decode.Goals.{then-is_empty-via-then-is_empty, then-is_empty-via-else-is_empty+then-line-ne0, then-is_empty-via-else-is_empty+else-line-ne0+then-count}
 
-pub returns-then-is-empty : goal.returns-then-is-empty
-returns-then-is-empty g c =
-    let none : line_bytes g.row.N c.args.line.now ≡ None = elim c.then-is-empty.branch [
-      | then-is-empty-via-then-is-empty w ↦ empty g.row.N c.args.line.now (eqb-true _ 0 (sym c.is-empty.ensures ∙ w.if-is-empty.true))
-      | then-is-empty-via-else-is-empty+then-line-ne0 w ↦ refused g.row.N c.args.line.now (decoded_odd c.args.line.now (omega (arith, w.if-line-ne0.true)))
-      | then-is-empty-via-else-is-empty+else-line-ne0+then-count w ↦ too_long g.row.N c.args.line.now (omega (arith, w.if-count.true))
+pub returns-then-is_empty : goal.returns-then-is_empty
+returns-then-is_empty g c =
+    let none : line_bytes g.row.N c.args.line.now ≡ None = elim c.then-is_empty.branch [
+      | then-is_empty-via-then-is_empty w ↦ empty g.row.N c.args.line.now (eqb-true _ 0 (sym c.is_empty.ensures ∙ w.if-is_empty.true))
+      | then-is_empty-via-else-is_empty+then-line-ne0 w ↦ refused g.row.N c.args.line.now (decoded_odd c.args.line.now (omega (arith, w.if-line-ne0.true)))
+      | then-is_empty-via-else-is_empty+else-line-ne0+then-count w ↦ too_long g.row.N c.args.line.now (omega (arith, w.if-count.true))
     ] in
     record { answer = none; spelled = line_unspelled g.row.N c.args.line.now none }
 
-pub returns-in-default : goal.returns-in-default
-returns-in-default g c =
-    let none = sym c.pair.ensures ∙ c.in-default.is in
+pub returns-in_default : goal.returns-in_default
+returns-in_default g c =
+    let none = sym c.pair.ensures ∙ c.in_default.is in
     let here = decoded_pair c.args.line.now c.loop-i.i (omega arith) in
     let all = refused g.row.N c.args.line.now (c.loop-i.invariant.0 ∙ ap (before (held c.loop-i.bytes)) (here ∙ ap (λ b. put b (decoded (drop (2 * (c.loop-i.i + 1)) c.args.line.now))) none)) in
     record { answer = all; spelled = line_unspelled g.row.N c.args.line.now all }
@@ -38,5 +38,5 @@ pub returns : goal.returns
 returns g c =
     let whole : 2 * c.loop-i.i ≡ length c.args.line.now = omega arith in
     let over = ap (λ j. drop j c.args.line.now) whole ∙ drop-length c.args.line.now in
-    let all = bounded g.row.N c.args.line.now (omega (arith, false-eqb _ 0 c.if-is-empty.ensures)) (omega arith) ∙ c.loop-i.invariant.0 ∙ ap (λ rest. before (held c.loop-i.bytes) (decoded rest)) over ∙ ap Some (append-nil (held c.loop-i.bytes)) in
+    let all = bounded g.row.N c.args.line.now (omega (arith, false-eqb _ 0 c.if-is_empty.ensures)) (omega arith) ∙ c.loop-i.invariant.0 ∙ ap (λ rest. before (held c.loop-i.bytes) (decoded rest)) over ∙ ap Some (append-nil (held c.loop-i.bytes)) in
     record { answer = all; spelled = line_spells g.row.N c.args.line.now (held c.loop-i.bytes) all }

@@ -4,4 +4,4 @@ use Rattle.listing.proofs.words.append_labelled.Goals as goal
 
 pub returns : goal.returns
 returns c =
-    appends_more c.args.out.now c.append.new.self c.append-decimal.new.out c.args.label.now (decimal c.args.n) c.append.ensures c.append-decimal.ensures
+    appends_more c.args.out.now c.append.new.self c.append_decimal.new.out c.args.label.now (decimal c.args.n) c.append.ensures c.append_decimal.ensures

@@ -10,10 +10,10 @@ returns c =
     let page = c.args.page in
     let writes = c.args.writes in
     let b0 = c.new-out.result in
-    let b1 = c.append-labelled.new.out in
-    let b2 = c.append-labelled-2.new.out in
+    let b1 = c.append_labelled.new.out in
+    let b2 = c.append_labelled-2.new.out in
     let b3 = c.append.new.self in
-    let e1 = c.append-labelled.ensures ∙ ap (λ n. take 128 (held b0 ++ labelled (codes "busy ") n)) c.from.ensures in
+    let e1 = c.append_labelled.ensures ∙ ap (λ n. take 128 (held b0 ++ labelled (codes "busy ") n)) c.from.ensures in
     appends_all b0 b3 (line_of (busy_words page writes)) c.new-out.ensures
-    (appends_more b0 b2 b3 (busy_words page writes) (10 ∷ []) (appends_more b0 b1 b2 (labelled (codes "busy ") page) (labelled (codes " ") writes) e1 c.append-labelled-2.ensures) c.append.ensures)
+    (appends_more b0 b2 b3 (busy_words page writes) (10 ∷ []) (appends_more b0 b1 b2 (labelled (codes "busy ") page) (labelled (codes " ") writes) e1 c.append_labelled-2.ensures) c.append.ensures)
     (busy_le page writes (omega arith) (omega arith))

@@ -23,24 +23,24 @@ returns c =
     elim c.match-frame.branch [
       | in-Setup w ↦
           let s = w.in-Setup.s in
-          let short = setup_le s w.append-chip.ensures.short w.append-start.ensures.short in
-          let b1 = w.append-chip.new.out in
-          let words = appends_more b0 b1 w.append-start.new.out (chip_words s) (start_words s) w.append-chip.ensures.words w.append-start.ensures.words in
-          ended b0 w.append-start.new.out b2 b3 f (Setup s) c.new-out.ensures words w.out-is c.append.ensures short w.in-Setup.is
+          let short = setup_le s w.append_chip.ensures.short w.append_start.ensures.short in
+          let b1 = w.append_chip.new.out in
+          let words = appends_more b0 b1 w.append_start.new.out (chip_words s) (start_words s) w.append_chip.ensures.words w.append_start.ensures.words in
+          ended b0 w.append_start.new.out b2 b3 f (Setup s) c.new-out.ensures words w.out-is c.append.ensures short w.in-Setup.is
       | in-Write w ↦
           let page = w.in-Write.page in
           let fill = w.in-Write.fill in
-          let b1 = w.append-labelled.new.out in
-          let e1 = w.append-labelled.ensures ∙ ap (λ n. take 128 (held b0 ++ labelled (codes "write page ") n)) w.from.ensures in
-          let e2 = w.append-labelled-in-Write.ensures ∙ ap (λ n. take 128 (held b1 ++ labelled (codes " fill ") n)) w.from-in-Write.ensures in
-          let words = appends_more b0 b1 w.append-labelled-in-Write.new.out (labelled (codes "write page ") page) (labelled (codes " fill ") fill) e1 e2 in
-          ended b0 w.append-labelled-in-Write.new.out b2 b3 f (Write page fill) c.new-out.ensures words w.out-is c.append.ensures (write_le page fill (omega arith) (omega arith)) w.in-Write.is
+          let b1 = w.append_labelled.new.out in
+          let e1 = w.append_labelled.ensures ∙ ap (λ n. take 128 (held b0 ++ labelled (codes "write page ") n)) w.from.ensures in
+          let e2 = w.append_labelled-in-Write.ensures ∙ ap (λ n. take 128 (held b1 ++ labelled (codes " fill ") n)) w.from-in-Write.ensures in
+          let words = appends_more b0 b1 w.append_labelled-in-Write.new.out (labelled (codes "write page ") page) (labelled (codes " fill ") fill) e1 e2 in
+          ended b0 w.append_labelled-in-Write.new.out b2 b3 f (Write page fill) c.new-out.ensures words w.out-is c.append.ensures (write_le page fill (omega arith) (omega arith)) w.in-Write.is
       | in-Discard w ↦
           let page = w.in-Discard.page in
-          let words = w.append-labelled-in-Discard.ensures ∙ ap (λ n. take 128 (held b0 ++ labelled (codes "discard page ") n)) w.from-in-Discard.ensures in
-          ended b0 w.append-labelled-in-Discard.new.out b2 b3 f (Discard page) c.new-out.ensures words w.out-is c.append.ensures (page_le (codes "discard page ") page (lit≤ tt) (omega arith)) w.in-Discard.is
+          let words = w.append_labelled-in-Discard.ensures ∙ ap (λ n. take 128 (held b0 ++ labelled (codes "discard page ") n)) w.from-in-Discard.ensures in
+          ended b0 w.append_labelled-in-Discard.new.out b2 b3 f (Discard page) c.new-out.ensures words w.out-is c.append.ensures (page_le (codes "discard page ") page (lit≤ tt) (omega arith)) w.in-Discard.is
       | in-Read w ↦
           let page = w.in-Read.page in
-          let words = w.append-labelled-in-Read.ensures ∙ ap (λ n. take 128 (held b0 ++ labelled (codes "read page ") n)) w.from-in-Read.ensures in
-          ended b0 w.append-labelled-in-Read.new.out b2 b3 f (Read page) c.new-out.ensures words w.out-is c.append.ensures (page_le (codes "read page ") page (lit≤ tt) (omega arith)) w.in-Read.is
+          let words = w.append_labelled-in-Read.ensures ∙ ap (λ n. take 128 (held b0 ++ labelled (codes "read page ") n)) w.from-in-Read.ensures in
+          ended b0 w.append_labelled-in-Read.new.out b2 b3 f (Read page) c.new-out.ensures words w.out-is c.append.ensures (page_le (codes "read page ") page (lit≤ tt) (omega arith)) w.in-Read.is
     ]

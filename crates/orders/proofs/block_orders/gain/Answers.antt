@@ -2,8 +2,8 @@ use Rattle.std.proofs.Common.{◌-◌, ◌*◌, ◌^◌, ◌≤◌, mul-le-mul, 
 use Rattle.orders.proofs.block_orders.gain.Goals as goal
 
 -- 2^32 × 64 × 128 is 2^45
-pub overflow-mul-result-3 : goal.overflow-mul-result-3
-overflow-mul-result-3 c =
+pub overflow_mul-result-3 : goal.overflow_mul-result-3
+overflow_mul-result-3 c =
     let a = c.args.a.now in
     let b = c.args.b.now in
     let p : a.age ≤ 2 ^ 32 = search rules in

@@ -10,8 +10,8 @@ pub returns-then-block-n : goal.returns-then-block-n
 returns-then-block-n g c =
     let f = g.A.Chip.meaning c.args.self.now.first in
     let k = g.B.Chip.meaning c.args.self.now.second in
-    let n = c.in-ok-n.n in
-    let s = split_is f k n c.in-ok-n.ensures in
+    let n = c.in_ok-n.n in
+    let s = split_is f k n c.in_ok-n.ensures in
     let b = c.args.block in
     let l = c.if-block-n.true in
     let told = by_first f k n s erases b l in
@@ -32,8 +32,8 @@ pub returns-else-block-n : goal.returns-else-block-n
 returns-else-block-n g c =
     let f = g.A.Chip.meaning c.args.self.now.first in
     let k = g.B.Chip.meaning c.args.self.now.second in
-    let n = c.in-ok-n.n in
-    let s = split_is f k n c.in-ok-n.ensures in
+    let n = c.in_ok-n.n in
+    let s = split_is f k n c.in_ok-n.ensures in
     let b = c.args.block in
     let l = c.if-block-n.false in
     let told = by_second f k n s erases b l in

@@ -10,8 +10,8 @@ pub returns-then-block-n : goal.returns-then-block-n
 returns-then-block-n g c =
     let f = g.A.Chip.meaning c.args.self.now.first in
     let k = g.B.Chip.meaning c.args.self.now.second in
-    let n = c.in-ok-n.n in
-    let s = split_is f k n c.in-ok-n.ensures in
+    let n = c.in_ok-n.n in
+    let s = split_is f k n c.in_ok-n.ensures in
     let b = c.args.block in
     let i = c.args.page in
     let xs = c.args.bytes.now in
@@ -35,8 +35,8 @@ pub returns-else-block-n : goal.returns-else-block-n
 returns-else-block-n g c =
     let f = g.A.Chip.meaning c.args.self.now.first in
     let k = g.B.Chip.meaning c.args.self.now.second in
-    let n = c.in-ok-n.n in
-    let s = split_is f k n c.in-ok-n.ensures in
+    let n = c.in_ok-n.n in
+    let s = split_is f k n c.in_ok-n.ensures in
     let b = c.args.block in
     let i = c.args.page in
     let xs = c.args.bytes.now in

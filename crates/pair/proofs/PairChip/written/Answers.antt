@@ -6,8 +6,8 @@ pub returns-then-block-n : goal.returns-then-block-n
 returns-then-block-n g c =
     let f = g.A.Chip.meaning c.args.self.now.first in
     let k = g.B.Chip.meaning c.args.self.now.second in
-    let n = c.in-ok-n.n in
-    let s = split_is f k n c.in-ok-n.ensures in
+    let n = c.in_ok-n.n in
+    let s = split_is f k n c.in_ok-n.ensures in
     let b = c.args.block in
     c.written.ensures ∙ by_first f k n s writtens b c.if-block-n.true
 
@@ -15,7 +15,7 @@ pub returns-else-block-n : goal.returns-else-block-n
 returns-else-block-n g c =
     let f = g.A.Chip.meaning c.args.self.now.first in
     let k = g.B.Chip.meaning c.args.self.now.second in
-    let n = c.in-ok-n.n in
-    let s = split_is f k n c.in-ok-n.ensures in
+    let n = c.in_ok-n.n in
+    let s = split_is f k n c.in_ok-n.ensures in
     let b = c.args.block in
     c.written-else-block-n.ensures ∙ by_second f k n s writtens b c.if-block-n.false

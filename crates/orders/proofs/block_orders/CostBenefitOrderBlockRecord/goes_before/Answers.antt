@@ -10,4 +10,4 @@ returns-then-theirs-ours-2 c =
     let a = c.args.a.now in
     let b = c.args.b.now in
     let tied : gained b a ≡ gained a b = sym c.gain-theirs.ensures ∙ c.if-theirs-ours-2.true ∙ c.gain-ours.ensures in
-    c.goes-before.ensures ∙ equal_then (gained b a) (gained a b) (least_erased a b) tied ∙ sym (by_products a b)
+    c.goes_before.ensures ∙ equal_then (gained b a) (gained a b) (least_erased a b) tied ∙ sym (by_products a b)

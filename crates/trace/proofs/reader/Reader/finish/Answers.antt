@@ -8,10 +8,10 @@ returns-in-Some c =
     let is : Err c.in-Some.fault ≡ ending (view c.args.self) = search rules in
     record { answer = is; whole = whole_from (view c.args.self) (Err c.in-Some.fault) is }
 
-pub returns-then-not-is-empty : goal.returns-then-not-is-empty
-returns-then-not-is-empty c =
-    let is : c.end-line.result ≡ ending (view c.args.self) = search rules in
-    record { answer = is; whole = whole_from (view c.args.self) c.end-line.result is }
+pub returns-then-not-is_empty : goal.returns-then-not-is_empty
+returns-then-not-is_empty c =
+    let is : c.end_line.result ≡ ending (view c.args.self) = search rules in
+    record { answer = is; whole = whole_from (view c.args.self) c.end_line.result is }
 
 pub returns-then-self : goal.returns-then-self
 returns-then-self c =
