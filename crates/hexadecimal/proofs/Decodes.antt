@@ -9,6 +9,10 @@ abbrev pub before : List ℕ → Option (List ℕ) → Option (List ℕ)
 before bs None = None
 before bs (Some cs) = Some (bs ++ cs)
 
+pub before_nothing : (rest : Option (List ℕ)) → rest ≡ before [] rest
+before_nothing None = refl
+before_nothing (Some cs) = refl
+
 pub before_put : (bs : List ℕ) (b : ℕ) (rest : Option (List ℕ)) → before bs (put (Some b) rest) ≡ before (bs ++ b ∷ []) rest
 before_put bs b None = refl
 before_put bs b (Some cs) = ap Some (sym (append_assoc bs (b ∷ []) cs))

@@ -1,4 +1,4 @@
--- Copying the live pages of a block leaves none of them Named there, and all Named pages written.
+-- Copying the live pages of a block leaves none of them named there, and all named pages written.
 use Rattle.std.proofs.Common.{◌≡◌, ℕ, zero, suc, ◌+◌, ◌<◌, ◌≤◌, Bool, true, false, cond, ◌⊎◌, List, [], ◌∷◌, ◌++◌, length, get_or, Some, None, Option, sym, refl, ap, ◌∙◌, subst, inl, inr, arith}
 use lib.ListN.{get_or-append}
 use Rattle.std.proofs.lemmas.List.{length-set, get_or-set_same, get_or-set_other, length_push, get_or_push}
@@ -15,14 +15,14 @@ use Rattle.rules.proofs.Flags.{true_is_not_false}
 abbrev pub at : ℕ → ℕ → Place
 at b i = record { block = b; page = i }
 
-abbrev pub pageAt : State → ℕ → ℕ → Page
-pageAt s b i = get_or (held s b).pages i no_page
+abbrev pub page_at : State → ℕ → ℕ → Page
+page_at s b i = get_or (held s b).pages i no_page
 
 abbrev pub Named : State → ℕ → ℕ → ℕ → Type 0
 Named s t b i = ◌≡◌ {A = Option Place} (get_or s.places t None) (Some (at b i))
 
 abbrev pub Valid : State → Type 0
-Valid s = (t b i : ℕ) → Named s t b i → (i < length (held s b).pages) × ((pageAt s b i).tag ≡ t)
+Valid s = (t b i : ℕ) → Named s t b i → (i < length (held s b).pages) × ((page_at s b i).tag ≡ t)
 
 place_below : (m : List (Option Place)) (t : ℕ) (q : Place) → get_or m t None ≡ Some q → t < length m
 place_below [] t q h = absurd (subst P (sym h) tt)
@@ -62,10 +62,10 @@ module _ (d : ℕ) (q : Page) (s : State) (in_chip : d < length s.chip.blocks) w
   unfolding program_page
   pages_other b h = ap (λ (c : Block). c.pages) (get_or-set_other s.chip.blocks d b _ no_block h)
 
-  page_kept : (b i : ℕ) → i < length (held s b).pages → (pageAt (program_page d q s) b i ≡ pageAt s b i) × (i < length (held (program_page d q s) b).pages)
+  page_kept : (b i : ℕ) → i < length (held s b).pages → (page_at (program_page d q s) b i ≡ page_at s b i) × (i < length (held (program_page d q s) b).pages)
   page_kept b i l = go (cases_eq b d)
     where
-      go : (b ≡ d) ⊎ (b ≡ d → ⊥) → (pageAt (program_page d q s) b i ≡ pageAt s b i) × (i < length (held (program_page d q s) b).pages)
+      go : (b ≡ d) ⊎ (b ≡ d → ⊥) → (page_at (program_page d q s) b i ≡ page_at s b i) × (i < length (held (program_page d q s) b).pages)
       go (inl e) =
           let p : (held (program_page d q s) b).pages ≡ (held s b).pages ++ q ∷ [] = ap (λ x. (held (program_page d q s) x).pages) e ∙ pages_same ∙ ap (λ x. (held s x).pages ++ q ∷ []) (sym e) in (
             ap (λ (ps : List Page). get_or ps i no_page) p ∙ get_or-append (held s b).pages (q ∷ []) no_page i l,
@@ -81,17 +81,17 @@ module _ (d : ℕ) (q : Page) (s : State) (in_chip : d < length s.chip.blocks) w
   unfolding program_page
   place_other t h = get_or-set_other s.places q.tag t _ None h
 
-  page_new : pageAt (program_page d q s) d (length (held s d).pages) ≡ q
+  page_new : page_at (program_page d q s) d (length (held s d).pages) ≡ q
   page_new = ap (λ (ps : List Page). get_or ps (length (held s d).pages) no_page) pages_same ∙ get_or_push (held s d).pages q no_page (length (held s d).pages) refl
 
   pub valid_program : q.tag < length s.places → Valid s → Valid (program_page d q s)
   valid_program h v t b i nm = go (cases_eq t q.tag)
     where
-      go : (t ≡ q.tag) ⊎ (t ≡ q.tag → ⊥) → (i < length (held (program_page d q s) b).pages) × ((pageAt (program_page d q s) b i).tag ≡ t)
+      go : (t ≡ q.tag) ⊎ (t ≡ q.tag → ⊥) → (i < length (held (program_page d q s) b).pages) × ((page_at (program_page d q s) b i).tag ≡ t)
       go (inl e) =
           let p = same_place d (length (held s d).pages) b i (sym (place_same h) ∙ ap (λ x. get_or (program_page d q s).places x None) (sym e) ∙ nm) in (
             subst (λ x. i < length (held (program_page d q s) x).pages) p.0 (subst (λ (ps : List Page). i < length ps) (sym pages_same) (omega (arith, length_push (held s d).pages q, p.1))),
-            ap (λ x. (pageAt (program_page d q s) x i).tag) (sym p.0) ∙ ap (λ x. (pageAt (program_page d q s) d x).tag) (sym p.1) ∙ ap (λ (x : Page). x.tag) page_new ∙ sym e,
+            ap (λ x. (page_at (program_page d q s) x i).tag) (sym p.0) ∙ ap (λ x. (page_at (program_page d q s) d x).tag) (sym p.1) ∙ ap (λ (x : Page). x.tag) page_new ∙ sym e,
           )
       go (inr e) =
           let o = v t b i (sym (place_other t e) ∙ nm) in
@@ -102,7 +102,7 @@ module _ (d : ℕ) (q : Page) (s : State) (in_chip : d < length s.chip.blocks) w
 record Copying (m : List (Option Place)) (b d : ℕ) (rest : List Page) (i : ℕ) (s : State) : Type 0 where
   in_chip : d < length s.chip.blocks
   mapped : length s.places ≡ length m
-  found : (k : ℕ) → k < length rest → pageAt s b (i + k) ≡ get_or rest k no_page
+  found : (k : ℕ) → k < length rest → page_at s b (i + k) ≡ get_or rest k no_page
   long : length (held s b).pages ≡ i + length rest
   left : (t k : ℕ) → Named s t b k → (i ≤ k) × (get_or m t None ≡ Some (at b k))
   valid : Valid s
@@ -120,11 +120,11 @@ unfolding copy
 copying m b d ne [] i s c = record { valid = c.valid; gone = λ u k h. omega (arith, (c.left u k h).0, (c.valid u b k h).0, c.long) }
 copying m b d ne (q ∷ qs) i s c = go (λ s₁ c₁. copying m b d ne qs (suc i) s₁ c₁) (names (get_or m q.tag None) b i) refl
   where
-    q_is : pageAt s b i ≡ q
-    q_is = ap (pageAt s b) (omega arith) ∙ c.found 0 (omega arith)
+    q_is : page_at s b i ≡ q
+    q_is = ap (page_at s b) (omega arith) ∙ c.found 0 (omega arith)
 
-    later : (k : ℕ) → k < length qs → pageAt s b (suc i + k) ≡ get_or qs k no_page
-    later k l = ap (pageAt s b) (omega arith) ∙ c.found (suc k) (omega arith)
+    later : (k : ℕ) → k < length qs → page_at s b (suc i + k) ≡ get_or qs k no_page
+    later k l = ap (page_at s b) (omega arith) ∙ c.found (suc k) (omega arith)
 
     go : ((s₁ : State) → Copying m b d qs (suc i) s₁ → Copied b s₁ (copy d (live_from m b (suc i) qs) s₁)) → (v : Bool) → names (get_or m q.tag None) b i ≡ v
         → Copied b s (copy d (cond v (q ∷ live_from m b (suc i) qs) (live_from m b (suc i) qs)) s)
@@ -144,7 +144,7 @@ copying m b d ne (q ∷ qs) i s c = go (λ s₁ c₁. copying m b d ne qs (suc i
           left = λ t k h.
               (let h₀ : Named s t b k = sym (place_other d q s c.in_chip t (other t k h)) ∙ h in
               let w = c.left t k h₀ in
-              let ki : k ≡ i → ⊥ = λ z. other t k h (sym (c.valid t b k h₀).1 ∙ ap (λ y. (pageAt s b y).tag) z ∙ ap (λ (x : Page). x.tag) q_is) in
+              let ki : k ≡ i → ⊥ = λ z. other t k h (sym (c.valid t b k h₀).1 ∙ ap (λ y. (page_at s b y).tag) z ∙ ap (λ (x : Page). x.tag) q_is) in
               (omega (arith, w.0), w.1));
           valid = valid_program d q s c.in_chip tl c.valid;
         }) in
@@ -157,7 +157,7 @@ copying m b d ne (q ∷ qs) i s c = go (λ s₁ c₁. copying m b d ne qs (suc i
       left = λ t k h.
           (let w = c.left t k h in
           let ki : k ≡ i → ⊥ = λ z. names_not (get_or m q.tag None) b i e
-          (ap (λ y. get_or m y None) (sym (ap (λ (x : Page). x.tag) q_is) ∙ ap (λ y. (pageAt s b y).tag) (sym z) ∙ (c.valid t b k h).1) ∙ w.1 ∙ ap (λ y. Some (at b y)) z) in
+          (ap (λ y. get_or m y None) (sym (ap (λ (x : Page). x.tag) q_is) ∙ ap (λ y. (page_at s b y).tag) (sym z) ∙ (c.valid t b k h).1) ∙ w.1 ∙ ap (λ y. Some (at b y)) z) in
           (omega (arith, w.0), w.1));
       valid = c.valid;
     })
@@ -167,7 +167,7 @@ pub copies : (b d : ℕ) (s : State) → (b ≡ d → ⊥) → d < length s.chip
 copies b d s ne l v = copying s.places b d ne (held s b).pages 0 s (record {
   in_chip = l;
   mapped = refl;
-  found = λ k h. ap (pageAt s b) (omega arith);
+  found = λ k h. ap (page_at s b) (omega arith);
   long = omega arith;
   left = λ t k h. (omega arith, h);
   valid = v;

@@ -20,8 +20,8 @@ pub runs_push : (n p d : ℕ) (os : List Op) (o : Op) (f h : Flash) → Runs n p
 runs_push n p d [] o f h e q = (subst (Fit n p d o) (sym e) q, ap (apply o) e)
 runs_push n p d (o' ∷ os) o f h r q = (r.0, runs_push n p d os o (apply o' f) h r.1 q)
 
-abbrev countAt : Flash → ℕ → ℕ
-countAt f b = (block f b).count
+abbrev count_at : Flash → ℕ → ℕ
+count_at f b = (block f b).count
 
 set_more : (bs : List Block) (b x : ℕ) (c : Block) → (get_or bs b no_block).count ≤ c.count → (get_or bs x no_block).count ≤ (get_or (set bs b c) x no_block).count
 set_more [] b x c e = omega arith
@@ -30,12 +30,12 @@ set_more (y ∷ ys) zero (suc x) c e = omega arith
 set_more (y ∷ ys) (suc b) zero c e = omega arith
 set_more (y ∷ ys) (suc b) (suc x) c e = set_more ys b x c e
 
-apply_more : (o : Op) (f : Flash) (x : ℕ) → countAt f x ≤ countAt (apply o f) x
+apply_more : (o : Op) (f : Flash) (x : ℕ) → count_at f x ≤ count_at (apply o f) x
 apply_more (program b q) f x = set_more f.blocks b x _ (omega arith)
 apply_more (erase b) f x = set_more f.blocks b x _ (omega arith)
 
-runs_more : (n p d : ℕ) (os : List Op) (f h : Flash) (x : ℕ) → Runs n p d os f h → countAt f x ≤ countAt h x
-runs_more n p d [] f h x e = subst (λ z. countAt f x ≤ countAt z x) e (omega arith)
+runs_more : (n p d : ℕ) (os : List Op) (f h : Flash) (x : ℕ) → Runs n p d os f h → count_at f x ≤ count_at h x
+runs_more n p d [] f h x e = subst (λ z. count_at f x ≤ count_at z x) e (omega arith)
 runs_more n p d (o ∷ os) f h x r = omega (arith, apply_more o f x, runs_more n p d os (apply o f) h x r.1)
 
 -- the four numbers of a chip
@@ -53,7 +53,7 @@ cond_true : {T : Type 0} (v : Bool) (x y : T) → v ≡ true → cond v x y ≡ 
 cond_true v x y h = ap (λ t. cond t x y) h
 
 module _ (n p d e : ℕ) (was : ℕ → ℕ) (fresh : (b : ℕ) → b < n → was b < e) where
-  asked_fit : (o : Op) (f : Flash) → Shaped n p d e f → Fit n p d o f → ((b : ℕ) → was b ≤ countAt f b) → ((b : ℕ) → countAt (apply o f) b ≤ suc (was b)) → asked o f ≡ Some (apply o f)
+  asked_fit : (o : Op) (f : Flash) → Shaped n p d e f → Fit n p d o f → ((b : ℕ) → was b ≤ count_at f b) → ((b : ℕ) → count_at (apply o f) b ≤ suc (was b)) → asked o f ≡ Some (apply o f)
   asked_fit (program b q) f s h lo hi =
       ap (λ r. if_accepted r (programmed f b q))
       (cond_true _ _ _ (lt-ltb b (length f.blocks) (omega (arith, h.0, s.blocks_are)))
@@ -61,13 +61,13 @@ module _ (n p d e : ℕ) (was : ℕ → ℕ) (fresh : (b : ℕ) → b < n → wa
       ∙ cond_true _ _ _ (eq-eqb (length (block f b).pages) (length (block f b).pages) refl)
       ∙ cond_true _ _ _ (eq-eqb (length q.bytes) f.d (h.2 ∙ sym s.d_is)))
   asked_fit (erase b) f s h lo hi =
-      let grown : countAt (apply (erase b) f) b ≡ suc (countAt f b) = ap (λ (c : Block). c.count) (get_or-set_same f.blocks b _ no_block (omega (arith, s.blocks_are))) in
+      let grown : count_at (apply (erase b) f) b ≡ suc (count_at f b) = ap (λ (c : Block). c.count) (get_or-set_same f.blocks b _ no_block (omega (arith, s.blocks_are))) in
       ap (λ r. if_accepted r (erased f b))
       (cond_true _ _ _ (lt-ltb b (length f.blocks) (omega (arith, s.blocks_are)))
-      ∙ cond_true _ _ _ (lt-ltb (countAt f b) f.e (omega (arith, s.e_is, fresh b h, lo b, hi b, grown))))
+      ∙ cond_true _ _ _ (lt-ltb (count_at f b) f.e (omega (arith, s.e_is, fresh b h, lo b, hi b, grown))))
 
   -- where every count grows by one at the most, and none is worn at first, all is accepted
-  pub runs_obeyed : (os : List Op) (f h : Flash) → Shaped n p d e f → Runs n p d os f h → ((b : ℕ) → was b ≤ countAt f b) → ((b : ℕ) → countAt h b ≤ suc (was b)) → obeyed os f ≡ Some h
+  pub runs_obeyed : (os : List Op) (f h : Flash) → Shaped n p d e f → Runs n p d os f h → ((b : ℕ) → was b ≤ count_at f b) → ((b : ℕ) → count_at h b ≤ suc (was b)) → obeyed os f ≡ Some h
   runs_obeyed [] f h s r lo hi = ap Some r
   runs_obeyed (o ∷ os) f h s r lo hi =
       let up = λ (b : ℕ). runs_more n p d os (apply o f) h b r.1 in
@@ -89,21 +89,21 @@ pub runs_p : (n p d : ℕ) (os : List Op) (f h : Flash) → Runs n p d os f h �
 runs_p n p d os f h r = sym (runs_shaped n p d (length f.blocks) f.p f.d f.e os f h r (own_shape f)).p_is
 
 -- a block's count grows by the times that it is erased
-pub runs_times : (n p d : ℕ) (os : List Op) (f h : Flash) → length f.blocks ≡ n → Runs n p d os f h → (b : ℕ) → countAt f b + times_erased b os ≡ countAt h b
-runs_times n p d [] f h l r b = omega (arith, ap (λ z. countAt z b) r)
+pub runs_times : (n p d : ℕ) (os : List Op) (f h : Flash) → length f.blocks ≡ n → Runs n p d os f h → (b : ℕ) → count_at f b + times_erased b os ≡ count_at h b
+runs_times n p d [] f h l r b = omega (arith, ap (λ z. count_at z b) r)
 runs_times n p d (program c q ∷ os) f h l r b =
-    omega (arith, runs_times n p d os (programmed f c q) h (length-set f.blocks c _ ∙ l) r.1 b, count_set f.blocks c b (record { count = countAt f c; pages = (block f c).pages ++ q ∷ [] }) refl)
+    omega (arith, runs_times n p d os (programmed f c q) h (length-set f.blocks c _ ∙ l) r.1 b, count_set f.blocks c b (record { count = count_at f c; pages = (block f c).pages ++ q ∷ [] }) refl)
 runs_times n p d (erase c ∷ os) f h l r b = go (runs_times n p d os (erased f c) h (length-set f.blocks c _ ∙ l) r.1 b) (cases_eq c b)
   where
-    own : countAt (erased f c) c ≡ suc (countAt f c)
+    own : count_at (erased f c) c ≡ suc (count_at f c)
     own = ap (λ (y : Block). y.count) (get_or-set_same f.blocks c _ no_block (omega (arith, r.0)))
 
-    go : countAt (erased f c) b + times_erased b os ≡ countAt h b → (c ≡ b) ⊎ (c ≡ b → ⊥) → countAt f b + cond (eqb c b) (suc (times_erased b os)) (times_erased b os) ≡ countAt h b
+    go : count_at (erased f c) b + times_erased b os ≡ count_at h b → (c ≡ b) ⊎ (c ≡ b → ⊥) → count_at f b + cond (eqb c b) (suc (times_erased b os)) (times_erased b os) ≡ count_at h b
     go rec (inl e) =
         let t = cond_true (eqb c b) (suc (times_erased b os)) (times_erased b os) (eq-eqb c b e) in
-        let o : countAt (erased f c) b ≡ suc (countAt f b) = subst (λ y. countAt (erased f c) y ≡ suc (countAt f y)) e own in
+        let o : count_at (erased f c) b ≡ suc (count_at f b) = subst (λ y. count_at (erased f c) y ≡ suc (count_at f y)) e own in
         omega (arith, t, o)
     go rec (inr e) =
         let t : cond (eqb c b) (suc (times_erased b os)) (times_erased b os) ≡ times_erased b os = ap (λ v. cond v (suc (times_erased b os)) (times_erased b os)) (ne_eqb c b e) in
-        let o : countAt (erased f c) b ≡ countAt f b = ap (λ (y : Block). y.count) (get_or-set_other f.blocks c b _ no_block (λ z. e (sym z))) in
+        let o : count_at (erased f c) b ≡ count_at f b = ap (λ (y : Block). y.count) (get_or-set_other f.blocks c b _ no_block (λ z. e (sym z))) in
         omega (arith, t, o)

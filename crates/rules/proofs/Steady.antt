@@ -12,7 +12,7 @@ use Rattle.rules.specs.Steps.{use_block, program_page, erase_block, copy, move}
 use Rattle.rules.proofs.Words.{held}
 use Rattle.rules.proofs.Frame.{copy_uses}
 use Rattle.rules.proofs.Flags.{nil_is_not_cons}
-use Rattle.rules.proofs.Copies.{at, named, Valid, copies, names_not, program_chip}
+use Rattle.rules.proofs.Copies.{at, Named, Valid, copies, names_not, program_chip}
 
 none_live : (m : List (Option Place)) (b : ℕ) (ps : List Page) (i j t : ℕ) → live_from m b i ps ≡ [] → get_or m t None ≡ Some (at b (i + j)) → j < length ps → (get_or ps j no_page).tag ≡ t → ⊥
 none_live m b [] i j t e h l g = omega arith
@@ -39,7 +39,7 @@ module _ (g : Settings) where
   unfolding use_block
   holding_put b u s h = record { valid = h.valid; long = h.long ∙ sym (length-set s.uses b u) }
 
-  pub holding_erase : (b : ℕ) (s : State) → ((u k : ℕ) → named s u b k → ⊥) → Holding s → Holding (erase_block g b s)
+  pub holding_erase : (b : ℕ) (s : State) → ((u k : ℕ) → Named s u b k → ⊥) → Holding s → Holding (erase_block g b s)
   unfolding erase_block
   holding_erase b s gone h = record {
     valid = λ t x i nm. (let o = h.valid t x i nm in let e = other t x i nm in
@@ -47,8 +47,8 @@ module _ (g : Settings) where
     long = length-set s.chip.blocks b _ ∙ h.long ∙ sym (length-set s.uses b Free);
   }
     where
-      other : (t x i : ℕ) → named s t x i → get_or (set s.chip.blocks b (record { count = suc (held s b).count; pages = [] })) x no_block ≡ held s x
-      other t x i nm = get_or-set_other s.chip.blocks b x _ no_block (λ e. gone t i (subst (λ y. named s t y i) e nm))
+      other : (t x i : ℕ) → Named s t x i → get_or (set s.chip.blocks b (record { count = suc (held s b).count; pages = [] })) x no_block ≡ held s x
+      other t x i nm = get_or-set_other s.chip.blocks b x _ no_block (λ e. gone t i (subst (λ y. Named s t y i) e nm))
 
   pub holding_no_live : (b : ℕ) (s : State) → live_pages s b ≡ [] → Holding s → Holding (erase_block g b s)
   holding_no_live b s e h = holding_erase b s (λ u k nm. let o = h.valid u b k nm in

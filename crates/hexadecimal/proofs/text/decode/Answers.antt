@@ -2,7 +2,7 @@ use Rattle.std.proofs.Common.{◌≡◌, ◌+◌, ◌*◌, ◌%◌, ◌<◌, ◌
 use lib.Seq.{drop-length}
 use Rattle.bounded.specs.Buffer.{held}
 use Rattle.hexadecimal.specs.Text.{decoded, put, line_bytes}
-use Rattle.hexadecimal.proofs.Decodes.{before, before_put, decoded_pair, decoded_odd, refused, bounded, empty, too_long}
+use Rattle.hexadecimal.proofs.Decodes.{before, before_nothing, before_put, decoded_pair, decoded_odd, refused, bounded, empty, too_long}
 use Rattle.hexadecimal.proofs.Spelling.{line_spells, line_unspelled}
 use Rattle.hexadecimal.proofs.text.decode.Goals as goal
 use Rattle.hexadecimal.proofs.text.decode.Goals.{then-is_empty-via-then-is_empty, then-is_empty-via-else-is_empty+then-line-ne0, then-is_empty-via-else-is_empty+else-line-ne0+then-count}
@@ -22,6 +22,9 @@ returns-in_default g c =
     let here = decoded_pair c.args.line.now c.loop-i.i (omega arith) in
     let all = refused g.row.N c.args.line.now (c.loop-i.invariant.0 ∙ ap (before (held c.loop-i.bytes)) (here ∙ ap (λ b. put b (decoded (drop (2 * (c.loop-i.i + 1)) c.args.line.now))) none)) in
     record { answer = all; spelled = line_unspelled g.row.N c.args.line.now all }
+
+pub loop-i-init : goal.loop-i-init
+loop-i-init g c = (before_nothing (decoded c.args.line.now) ∙ ap (λ bs. before bs (decoded c.args.line.now)) (sym c.new-bytes.ensures), ap length c.new-bytes.ensures)
 
 pub loop-i-preserved : goal.loop-i-preserved
 loop-i-preserved g c =
