@@ -63,21 +63,24 @@ fn requests(rt: HostRuntime) {
 fn setup_words(rt: HostRuntime) {
     assert!(rt;
         frame_line(&FOUR_BLOCKS).as_slice()
-            == b"setup blocks 4 pages 2 bytes 1 erases 100 k 0 threshold 2 order fewest-live logical 4\n"
+            == b"setup blocks 4 pages 2 bytes 1 erases 100 k 0 threshold 2 order fewest-live logical 4\n".as_slice()
     );
     assert!(rt;
         frame_line(&LARGEST).as_slice()
-            == b"setup blocks 65535 pages 255 bytes 65535 erases 4294967295 k 255 threshold 65535 order cost-benefit logical 65535\n"
+            == b"setup blocks 65535 pages 255 bytes 65535 erases 4294967295 k 255 threshold 65535 order cost-benefit logical 65535\n".as_slice()
     );
 }
 
 #[test]
 fn request_words(rt: HostRuntime) {
     assert!(rt;
-        frame_line(&Frame::Write { page: 10, fill: 0 }).as_slice() == b"write page 10 fill 0\n"
+        frame_line(&Frame::Write { page: 10, fill: 0 }).as_slice()
+            == b"write page 10 fill 0\n".as_slice()
     );
-    assert!(rt; frame_line(&Frame::Discard { page: 65535 }).as_slice() == b"discard page 65535\n");
-    assert!(rt; frame_line(&Frame::Read { page: 7 }).as_slice() == b"read page 7\n");
+    assert!(rt;
+        frame_line(&Frame::Discard { page: 65535 }).as_slice() == b"discard page 65535\n".as_slice()
+    );
+    assert!(rt; frame_line(&Frame::Read { page: 7 }).as_slice() == b"read page 7\n".as_slice());
 }
 
 #[test]
@@ -86,15 +89,17 @@ fn fault_words(rt: HostRuntime) {
         cause: Cause::Frame(FrameFault::WrongPlace),
         line: 1,
     };
-    assert!(rt; fault_line(&first).as_slice() == b"fault 21 line 1 frame\n");
+    assert!(rt; fault_line(&first).as_slice() == b"fault 21 line 1 frame\n".as_slice());
     let second = Fault {
         cause: Cause::Text(TextFault::NotHexadecimal),
         line: 20,
     };
-    assert!(rt; fault_line(&second).as_slice() == b"fault 18 line 20 text\n");
+    assert!(rt; fault_line(&second).as_slice() == b"fault 18 line 20 text\n".as_slice());
     let last = Fault {
         cause: Cause::Frame(FrameFault::WrongCheck),
         line: 18446744073709551615,
     };
-    assert!(rt; fault_line(&last).as_slice() == b"fault 19 line 18446744073709551615 frame\n");
+    assert!(rt;
+        fault_line(&last).as_slice() == b"fault 19 line 18446744073709551615 frame\n".as_slice()
+    );
 }

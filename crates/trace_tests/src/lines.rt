@@ -142,7 +142,7 @@ fn full_buffer(rt: HostRuntime) {
     assert!(rt; bytes.push(1));
     bytes.append(&[2, 3]);
     assert!(rt; !bytes.push(4), "there is no room");
-    assert!(rt; bytes.as_slice() == &[1, 2]);
+    assert!(rt; bytes.as_slice() == [1, 2].as_slice());
     bytes.clear();
     assert!(rt; bytes.as_slice().is_empty());
 }
