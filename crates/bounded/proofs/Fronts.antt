@@ -1,5 +1,5 @@
 -- What a buffer of n bytes keeps of a list: its front.
-use Rattle.std.proofs.Common.{◌≡◌, ℕ, zero, suc, ◌+◌, ◌<◌, ◌≤◌, Bool, true, false, cond, ltb, List, [], ◌∷◌, ◌++◌, length, take, sym, refl, ap, ◌∙◌, append_assoc, append-nil, arith, length-append, length-take, take_all, ltb-false, ltb-true}
+use Rattle.std.proofs.Common.{◌≡◌, ℕ, zero, suc, ◌≤◌, Bool, true, false, cond, ltb, List, [], ◌∷◌, ◌++◌, length, take, sym, refl, ap, ◌∙◌, append_assoc, append-nil, arith, length-append, length-take, take_all, ltb-false, ltb-true}
 use lib.Seq.{take-append-le}
 use Rattle.bounded.specs.Buffer.{held}
 use Rattle.bounded.specs.declared.bytes.Bytes.{Bytes}

@@ -1,9 +1,9 @@
 -- What the chip of tables and memory answers to each call. Assumes nothing.
-use Rattle.std.proofs.Common.{◌≡◌, ℕ, ◌+◌, ◌*◌, ◌%◌, ◌<◌, ◌≤◌, min, List, length, get_or, take, drop, Ok, Err, Result, sym, refl, ap, ◌∙◌, subst, arith}
+use Rattle.std.proofs.Common.{◌≡◌, ℕ, ◌*◌, ◌%◌, ◌<◌, ◌≤◌, min, length, get_or, take, drop, Ok, Err, Result, sym, ap, ◌∙◌, subst, arith}
 use Rattle.flash.specs.declared.Geometry.{Geometry}
 use Rattle.flash.specs.declared.Refusal.{Refusal}
 use Rattle.flash.specs.declared.Refusal.TheVariants.{Outside, OutOfTurn, WrongLength, WornOut}
-use Rattle.flash.specs.Meaning.{Flash, Block, Page, no_page, geometry_of, block, page}
+use Rattle.flash.specs.Meaning.{Block, Page, no_page, geometry_of, block, page}
 use Rattle.flash.specs.Calls.{below, equal, in_block, in_page, count_answer, written_answer, tag_answer, read_answer, program_answer, erase_answer}
 use Rattle.flash.proofs.Tests.{below_passes, below_fails, equal_passes, equal_fails}
 use Rattle.emulated.specs.declared.Emulated.{Emulated}

@@ -1,9 +1,9 @@
 -- What an erase and a program make of the tables and the memory. Assumes nothing.
-use Rattle.std.proofs.Common.{◌≡◌, ℕ, suc, ◌+◌, ◌*◌, ◌%◌, ◌<◌, ◌≤◌, min, ◌≢◌, List, [], ◌∷◌, ◌++◌, map, length, get_or, take, drop, set, sym, refl, ap, ◌∙◌, subst, inl, inr, mul-le-mul_right, suc-mul, arith, get_or-set_other, get_or-set_same}
+use Rattle.std.proofs.Common.{◌≡◌, ℕ, suc, ◌+◌, ◌*◌, ◌%◌, ◌<◌, min, ◌≢◌, List, [], ◌∷◌, ◌++◌, map, length, get_or, take, drop, set, sym, ap, ◌∙◌, inl, inr, mul-le-mul_right, suc-mul, arith, get_or-set_other, get_or-set_same}
 use Rattle.std.specs.List.{range_with_len}
 use Rattle.std.proofs.lemmas.List.FromFn.{map-range_with_len_more}
 use Rattle.std.proofs.lemmas.Bool.{cases_lt}
-use Rattle.flash.specs.Meaning.{Flash, Block, Page, no_block, no_page, page_of, block, erased, programmed}
+use Rattle.flash.specs.Meaning.{Block, no_block, no_page, page_of, block, erased, programmed}
 use Rattle.emulated.specs.Held.{chip_of, block_at, page_at, place}
 use Rattle.emulated.specs.Laws.{block_is}
 use Rattle.emulated.proofs.Lines.{counted_set, map_same}

@@ -5,7 +5,7 @@
 --
 -- Nothing ties the tables to the memory but what is said here, so a count past E reads as E, a number of written
 -- pages past P as P, and a tag as its low 16 bits.
-use Rattle.std.specs.Prelude.{ℕ, ◌+◌, ◌*◌, ◌%◌, min, Bool, cond, ◌&&◌, List, map, length, take, drop, nat_le, slice_index}
+use Rattle.std.specs.Prelude.{ℕ, ◌+◌, ◌*◌, ◌%◌, min, cond, ◌&&◌, List, map, take, drop, nat_le, slice_index}
 use Rattle.std.specs.List.{range_with_len}
 use Rattle.flash.specs.declared.Geometry.{Geometry}
 use Rattle.flash.specs.Limits.{within}

@@ -1,13 +1,12 @@
 -- The chip of any tables and any memory is well formed. These are proofs, with nothing in them to believe.
-use Rattle.std.specs.Prelude.{◌≡◌, ℕ, zero, suc, ◌+◌, ◌*◌, ◌%◌, ◌<◌, ◌≤◌, min, Bool, true, false, cond, ◌&&◌, List, [], ◌∷◌, ◌++◌, map, length, nat_le, slice_index, slice_index_or, refl}
-use Rattle.std.proofs.Common.{sym, ap, ◌∙◌, subst, arith, mul-le-mul_right, suc-mul, mod-lt, leb-true, length-take, length-drop}
-use Rattle.std.specs.List.{range_with_len}
+use Rattle.std.specs.Prelude.{◌≡◌, ℕ, suc, ◌+◌, ◌*◌, ◌<◌, ◌≤◌, min, Bool, true, false, cond, ◌&&◌, List, length, nat_le, slice_index, slice_index_or, refl}
+use Rattle.std.proofs.Common.{sym, subst, arith, mul-le-mul_right, suc-mul, leb-true, length-take, length-drop}
 use Rattle.std.proofs.lemmas.List.FromFn.{length-map-range_with_len, get_or-map-range_with_len}
 use Rattle.std.proofs.lemmas.Bool.{and_parts}
 use Rattle.flash.specs.declared.Geometry.{Geometry}
 use Rattle.flash.specs.Limits.{within, between}
-use Rattle.flash.specs.Meaning.{Flash, Block, Page, WellFormed, BlockFits, PageFits, no_geometry, no_block, no_page, block}
-use Rattle.emulated.specs.Held.{served, held, chip_of, block_at, page_at, place}
+use Rattle.flash.specs.Meaning.{Page, WellFormed, BlockFits, PageFits, no_geometry, no_block, no_page, block}
+use Rattle.emulated.specs.Held.{served, held, chip_of, block_at, page_at}
 
 pub place_lt : (n p b i : ℕ) → b < n → i < p → b * p + i < n * p
 place_lt n p b i lb li = omega (arith, mul-le-mul_right {m = suc b} {n = n} p lb, suc-mul b p)

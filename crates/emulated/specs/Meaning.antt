@@ -1,6 +1,5 @@
 -- The chip that an `Emulated` stands for.
-use Rattle.std.specs.Prelude.{◌≡◌, length}
-use Rattle.flash.specs.declared.Geometry.{Geometry}
+use Rattle.std.specs.Prelude.{length}
 use Rattle.flash.specs.Meaning.{Flash, Lawful, ByMeaning, lawful_by_meaning}
 use Rattle.emulated.specs.Held.{served, held}
 use Rattle.emulated.specs.Laws.{held_formed}

@@ -1,11 +1,10 @@
 -- What a row of copies leaves of a chip, and that a relocation that was let begin is never refused on its way. Assumes nothing.
-use Rattle.std.proofs.Common.{◌≡◌, ℕ, ◌+◌, ◌<◌, ◌≤◌, ◌≢◌, List, [], ◌∷◌, ◌++◌, map, length, get_or, take, set, Ok, Err, Result, sym, refl, ap, ◌∙◌, subst, inl, inr, append_assoc, arith, length-append, length-set, length-take, get_or-set_other, get_or-set_same, set-set}
+use Rattle.std.proofs.Common.{◌≡◌, ℕ, ◌+◌, ◌<◌, ◌≢◌, List, [], ◌∷◌, ◌++◌, length, get_or, take, Ok, sym, refl, ap, ◌∙◌, inl, inr, arith, length-append, length-set, length-take, get_or-set_other, get_or-set_same}
 use Rattle.std.proofs.lemmas.List.{take_more, map-append, nil_from_length}
 use Rattle.std.proofs.lemmas.Bool.{cases_lt}
-use Rattle.flash.specs.declared.Refusal.{Refusal}
 use Rattle.flash.specs.declared.Refusal.TheVariants.{Outside, OutOfTurn, WrongLength, WornOut}
-use Rattle.flash.specs.Meaning.{Flash, Page, Block, Op, WellFormed, program, block, page, no_page, no_block, programmed, apply, applies}
-use Rattle.flash.specs.Calls.{read_answer, erase_answer}
+use Rattle.flash.specs.Meaning.{Flash, Page, Block, WellFormed, program, block, page, no_page, no_block, programmed, applies}
+use Rattle.flash.specs.Calls.{erase_answer}
 use Rattle.flash.specs.Tools.{copy_answer, copies, relocation, last_read}
 use Rattle.flash.proofs.Tests.{below_passes, equal_passes}
 

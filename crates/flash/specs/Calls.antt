@@ -4,7 +4,7 @@
 use Rattle.std.specs.Prelude.{ℕ, cond, List, length, Ok, Err, Result, ◌==◌, nat_lt}
 use Rattle.flash.specs.declared.Refusal.{Refusal}
 use Rattle.flash.specs.declared.Refusal.TheVariants.{Outside, OutOfTurn, WrongLength, WornOut}
-use Rattle.flash.specs.Meaning.{Flash, Page, Block, block, page, programmed, erased}
+use Rattle.flash.specs.Meaning.{Flash, Page, block, page, programmed, erased}
 
 -- `below a b e r`: refused by e unless a < b, and otherwise r.
 abbrev pub below : {T : Type 0} → ℕ → ℕ → Refusal → Result T Refusal → Result T Refusal

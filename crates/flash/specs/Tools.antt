@@ -2,8 +2,8 @@
 use Rattle.std.specs.Prelude.{ℕ, List, [], ◌∷◌, ◌++◌, map, length, Ok, Err, Result}
 use Rattle.flash.specs.declared.Refusal.{Refusal}
 use Rattle.flash.specs.declared.Refusal.TheVariants.{Outside, OutOfTurn, WrongLength, WornOut}
-use Rattle.flash.specs.Meaning.{Flash, Page, Block, Op, program, erase, block, page, programmed, applies}
-use Rattle.flash.specs.Calls.{below, equal, in_block, in_page, read_answer, after}
+use Rattle.flash.specs.Meaning.{Flash, Page, Op, program, erase, block, page, programmed, applies}
+use Rattle.flash.specs.Calls.{below, equal, in_block, read_answer, after}
 
 -- Copying page i of block b to the next unwritten page of the block `to`, by a buffer of n bytes.
 -- 12: a block or the page is outside, or `to` is full. 13: the page is unwritten. 14: the buffer is not D long.

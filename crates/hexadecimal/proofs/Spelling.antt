@@ -1,9 +1,9 @@
 -- A text has bytes exactly when it spells them, and a line then has two digits to a byte.
-use Rattle.std.proofs.Common.{◌≡◌, ℕ, ◌+◌, ◌-◌, ◌*◌, ◌/◌, ◌%◌, ◌<◌, ◌≤◌, Bool, true, false, cond, ◌&&◌, ltb, leb, ◌⊎◌, List, [], ◌∷◌, length, Some, None, Option, sym, refl, ap, ◌∙◌, subst, inl, inr, ⊎_elim, arith, le-ltb, lt-ltb, le-leb, leb-true}
+use Rattle.std.proofs.Common.{◌≡◌, ℕ, ◌+◌, ◌-◌, ◌*◌, ◌/◌, ◌%◌, ◌<◌, ◌≤◌, Bool, true, false, cond, ◌&&◌, ltb, leb, List, [], ◌∷◌, length, Some, None, Option, sym, refl, ap, ◌∙◌, subst, inl, inr, ⊎_elim, arith, le-ltb, lt-ltb, le-leb, leb-true}
 use borrow.Author.Tests.{lt-leb}
 use Rattle.std.proofs.lemmas.Bool.{and_parts, cond_both}
 use Rattle.std.proofs.str.Laws.{order}
-use Rattle.hexadecimal.specs.Text.{within, digit_value, byte_of, pair_value, put, decoded, line_bytes, upper, lower, Digit, Spells, Unspelled}
+use Rattle.hexadecimal.specs.Text.{within, digit_value, byte_of, pair_value, put, decoded, line_bytes, Digit, Spells, Unspelled}
 use Rattle.hexadecimal.proofs.Decodes.{bounded}
 
 none_some : {A : Type 0} {x : A} → None ≡ Some x → ⊥

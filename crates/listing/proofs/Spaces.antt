@@ -1,8 +1,8 @@
 -- How long words are at most.
-use Rattle.std.proofs.Common.{◌≡◌, ℕ, ◌+◌, ◌^◌, ◌<◌, ◌≤◌, List, [], ◌∷◌, ◌++◌, length, codes, decimal, arith, lit<, lit≤, length-append}
+use Rattle.std.proofs.Common.{ℕ, ◌+◌, ◌^◌, ◌<◌, ◌≤◌, List, [], ◌∷◌, ◌++◌, length, codes, decimal, arith, lit<, lit≤, length-append}
 use Rattle.std.proofs.lemmas.Fmt.{length-decimal-le}
 use Rattle.trace.specs.Faults.{cause_number, layer_of}
-use Rattle.listing.specs.Words.{labelled, order_word, layer_word, chip_words, start_words, frame_words, fault_words, busy_words, line_of}
+use Rattle.listing.specs.Words.{labelled, order_word, layer_word, chip_words, start_words, fault_words, busy_words, line_of}
 use Rattle.trace.specs.declared.fault.Layer.{Layer}
 use Rattle.trace.specs.declared.fault.Layer.TheVariants as layer
 use Rattle.trace.specs.declared.fault.Fault.{Fault}

@@ -1,11 +1,11 @@
 -- Two figures compare as the products of the code do. Assumes nothing.
-use Rattle.std.specs.Prelude.{◌≡◌, ℕ, ◌+◌, ◌-◌, ◌*◌, ◌<◌, ◌≤◌, Bool, true, false, cond, ◌==◌, ◌≢◌, nat_lt, refl}
+use Rattle.std.specs.Prelude.{◌≡◌, ℕ, ◌+◌, ◌-◌, ◌*◌, ◌<◌, Bool, true, false, cond, ◌==◌, ◌≢◌, nat_lt, refl}
 use Rattle.std.proofs.Common.{sym, ap, ◌∙◌, mul-pos, mul-zero, arith}
-use Rattle.std.proofs.lemmas.Bool.{lt-ltb, le-ltb, eq-eqb, ne_eqb, eqb-true, eqb-false, cases_lt}
+use Rattle.std.proofs.lemmas.Bool.{lt-ltb, le-ltb, eq-eqb, ne_eqb, eqb-true, eqb-false}
 use Rattle.std.proofs.lemmas.Bool.Decides.{nat_tests}
 use Rattle.orders.specs.declared.block.BlockRecord.{BlockRecord}
 use Rattle.orders.specs.Products.{gained}
-use Rattle.orders.specs.Ranks.{Figure, endless, over, figure, larger, equal, then_by, cost_benefit, least_erased}
+use Rattle.orders.specs.Ranks.{endless, over, larger, equal, then_by, cost_benefit, least_erased}
 use Rattle.orders.specs.Cross.{larger_first}
 
 abbrev pub top : BlockRecord → ℕ

@@ -3,7 +3,7 @@
 --     fewest_live     fewer live pages, then as least_erased
 --     cost_benefit    the larger figure of age and cost, then as least_erased
 --     busiest         more writes, then the lower number
-use Rattle.std.specs.Prelude.{◌≡◌, ℕ, ◌-◌, ◌*◌, Bool, true, false, cond, ◌&&◌, ◌||◌, ◌==◌, nat_lt}
+use Rattle.std.specs.Prelude.{ℕ, ◌-◌, ◌*◌, Bool, true, false, cond, ◌&&◌, ◌||◌, ◌==◌, nat_lt}
 use Rattle.orders.specs.declared.block.BlockRecord.{BlockRecord}
 use Rattle.orders.specs.declared.page.PageRecord.{PageRecord}
 

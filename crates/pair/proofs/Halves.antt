@@ -1,11 +1,11 @@
 -- What one of two chips answers, or becomes, is what their pair answers, or becomes. Assumes nothing.
-use Rattle.std.proofs.Common.{◌≡◌, ℕ, suc, ◌+◌, ◌-◌, ◌<◌, ◌≤◌, Bool, true, false, cond, ltb, List, [], ◌∷◌, ◌++◌, length, get_or, set, Ok, Err, Result, sym, refl, ap, ◌∙◌, subst, arith, length-append, length-set, ltb-false, ltb-true, le-ltb, lt-ltb}
+use Rattle.std.proofs.Common.{◌≡◌, ℕ, suc, ◌+◌, ◌-◌, ◌<◌, ◌≤◌, Bool, true, false, cond, ltb, [], ◌∷◌, ◌++◌, length, get_or, Ok, Err, Result, sym, refl, ap, ◌∙◌, subst, arith, length-append, length-set, ltb-false, ltb-true, le-ltb, lt-ltb}
 use Rattle.std.proofs.lemmas.List.{get_or_append_left, get_or-append_right, set-append_left, set-append_right}
 use Rattle.flash.specs.declared.Geometry.{Geometry}
 use Rattle.flash.specs.declared.Refusal.{Refusal}
 use Rattle.flash.specs.declared.Refusal.TheVariants.{Outside, OutOfTurn, WrongLength, WornOut}
-use Rattle.flash.specs.Meaning.{Flash, Block, Page, no_block, no_page, no_chip, geometry_of, block, page, with_block, programmed, erased}
-use Rattle.flash.specs.Calls.{below, equal, in_block, after, count_answer, written_answer, tag_answer, read_answer, program_answer, erase_answer}
+use Rattle.flash.specs.Meaning.{Flash, Block, Page, no_block, no_page, no_chip, geometry_of, block, with_block}
+use Rattle.flash.specs.Calls.{below, equal, in_block, after}
 use Rattle.flash.proofs.Tests.{never_both}
 use Rattle.pair.specs.Joined.{joins, both, joined, split}
 use Rattle.pair.specs.Laws.{Alike, alike}

@@ -1,6 +1,6 @@
 -- The pair of two well formed chips is well formed. These are proofs, with nothing in them to believe.
-use Rattle.std.specs.Prelude.{◌≡◌, ℕ, ◌+◌, ◌-◌, ◌<◌, ◌≤◌, Bool, true, false, cond, ◌&&◌, List, [], ◌∷◌, ◌++◌, length, ◌==◌, refl}
-use Rattle.std.proofs.Common.{sym, ap, ◌∙◌, subst, inl, inr, arith, eqb-true, leb-true, length-append}
+use Rattle.std.specs.Prelude.{◌≡◌, ◌+◌, ◌-◌, ◌<◌, ◌≤◌, Bool, true, false, cond, length, ◌==◌, refl}
+use Rattle.std.proofs.Common.{sym, subst, inl, inr, arith, eqb-true, leb-true, length-append}
 use Rattle.std.proofs.lemmas.List.{get_or_append_left, get_or-append_right}
 use Rattle.std.proofs.lemmas.Bool.{and_parts, cases_lt}
 use Rattle.flash.specs.Meaning.{Flash, WellFormed, BlockFits, no_block, no_chip, geometry_of, block}

@@ -7,7 +7,7 @@
 --   move           a block's live pages go to a free block, the block is erased, the other gets a use
 --   make_room      steps 1 to 3 of a write: afterwards the open block has an unwritten page
 --   store          step 4 of a write
-use Rattle.std.specs.Prelude.{ℕ, suc, ◌/◌, Bool, true, false, cond, List, [], ◌∷◌, ◌++◌, length, set, Some, None, nat_lt, slice_index_or, slice_set}
+use Rattle.std.specs.Prelude.{ℕ, suc, ◌/◌, Bool, true, false, cond, List, [], ◌∷◌, ◌++◌, length, Some, None, nat_lt, slice_index_or, slice_set}
 use Rattle.flash.specs.Meaning.{Page, program, erase, block, programmed, erased}
 use Rattle.rules.specs.declared.Settings.{Settings}
 use Rattle.rules.specs.declared.Use.{Use}

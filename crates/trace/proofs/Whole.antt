@@ -1,11 +1,10 @@
 -- What a reader answers on its way through an input, byte by byte, is what the input tells as a whole.
-use Rattle.std.proofs.Common.{◌≡◌, ℕ, zero, suc, ◌+◌, ◌*◌, ◌<◌, ◌≤◌, Bool, true, false, cond, ◌&&◌, eqb, ltb, List, [], ◌∷◌, ◌++◌, length, Some, None, Ok, Err, Option, Result, sym, refl, ap, ◌∙◌, subst, append_assoc, append-nil, arith, length-append, ltb-false, ne_eqb, eqb-true}
-use Rattle.hexadecimal.specs.Text.{line_bytes}
+use Rattle.std.proofs.Common.{◌≡◌, ℕ, ◌<◌, ◌≤◌, Bool, true, false, cond, eqb, ltb, List, [], ◌∷◌, ◌++◌, length, Some, None, Ok, Err, Option, Result, sym, refl, ap, ◌∙◌, append_assoc, append-nil, arith, length-append, ltb-false, ne_eqb, eqb-true}
 use Rattle.hexadecimal.specs.declared.text.TextFault.TheVariants.{NotHexadecimal}
 use Rattle.hexadecimal.proofs.Decodes.{too_long}
 use Rattle.trace.specs.Lines.{given, line_frame}
 use Rattle.trace.specs.Reading.{Reading, onto, lines, placed, next_line, faulty, told_first, told, read_all}
-use Rattle.trace.specs.Steps.{State, Step, beginning, stopped, settled, line_end, kept, unless, byte_step, step, end_step, ending, after_all, news, heard, concluded}
+use Rattle.trace.specs.Steps.{State, Step, beginning, stopped, settled, line_end, kept, unless, byte_step, end_step, ending, after_all, news, heard, concluded}
 use Rattle.trace.specs.declared.fault.Cause.{Cause}
 use Rattle.trace.specs.declared.fault.Cause.TheVariants as cause
 use Rattle.trace.specs.declared.fault.FrameFault.TheVariants.{WrongPlace}

@@ -1,14 +1,14 @@
 -- A frame is read back from its bytes, and only from them.
-use Rattle.std.proofs.Common.{◌≡◌, ℕ, zero, suc, ◌+◌, ◌-◌, ◌*◌, ◌/◌, ◌%◌, ◌<◌, ◌≤◌, Bool, true, false, cond, ◌&&◌, eqb, List, [], ◌∷◌, ◌++◌, map, length, get_or, Some, None, Ok, Err, sum, Option, Result, sym, refl, ap, ◌∙◌, subst, arith, lit<, lit≤, eq-eqb, eqb-true}
+use Rattle.std.proofs.Common.{◌≡◌, ℕ, zero, suc, ◌+◌, ◌*◌, ◌/◌, ◌%◌, ◌<◌, ◌≤◌, Bool, true, false, cond, eqb, List, [], ◌∷◌, ◌++◌, map, length, Some, None, Ok, Err, sum, Option, Result, sym, refl, ap, ◌∙◌, subst, arith, lit<, lit≤, eq-eqb, eqb-true}
 use Rattle.std.proofs.lemmas.List.FromFn.{fill_by_all}
 use Rattle.std.proofs.lemmas.List.Sums.{sum_by_push}
 use Rattle.std.proofs.lemmas.Bool.{and_parts}
 use Rattle.std.specs.List.{range_with_len}
-use Rattle.hexadecimal.specs.Text.{line_bytes, Spells, Digit}
+use Rattle.hexadecimal.specs.Text.{line_bytes, Spells}
 use Rattle.hexadecimal.specs.declared.text.TextFault.{TextFault}
 use Rattle.hexadecimal.specs.declared.text.TextFault.TheVariants.{NotHexadecimal}
 use Rattle.hexadecimal.proofs.Spelling.{line_spells, line_spelled}
-use Rattle.trace.specs.Frames.{two, four, order_byte, body, check_byte, frame_bytes, at, at2, at4, shaped, settings, setup_of, formed, frame_of}
+use Rattle.trace.specs.Frames.{two, order_byte, body, check_byte, frame_bytes, at, at2, at4, shaped, settings, setup_of, formed, frame_of}
 use Rattle.trace.specs.Lines.{caused, given, line_frame, Accepts}
 use Rattle.trace.specs.declared.fault.FrameFault.{FrameFault}
 use Rattle.trace.specs.declared.fault.FrameFault.TheVariants.{WrongCheck, WrongForm}

@@ -6,7 +6,7 @@
 --   04 read     page (2)
 --
 -- A check byte follows, which makes the sum of all bytes 0 modulo 256.
-use Rattle.std.specs.Prelude.{◌≡◌, ℕ, ◌+◌, ◌-◌, ◌*◌, ◌/◌, ◌%◌, Bool, true, false, cond, ◌&&◌, List, [], ◌∷◌, ◌++◌, length, Ok, Err, sum, Result, ◌==◌, slice_index}
+use Rattle.std.specs.Prelude.{ℕ, ◌+◌, ◌-◌, ◌*◌, ◌/◌, ◌%◌, Bool, cond, ◌&&◌, List, [], ◌∷◌, ◌++◌, length, Ok, Err, sum, Result, ◌==◌, slice_index}
 use Rattle.trace.specs.declared.fault.FrameFault.{FrameFault}
 use Rattle.trace.specs.declared.fault.FrameFault.TheVariants.{WrongCheck, WrongForm}
 use Rattle.trace.specs.declared.frame.OrderKind.{OrderKind}

@@ -1,5 +1,5 @@
 -- How a reader goes through an input byte by byte, keeping at most one line of 34 characters.
-use Rattle.std.specs.Prelude.{◌≡◌, ℕ, Bool, true, false, cond, List, [], ◌∷◌, ◌++◌, length, Some, None, Ok, Err, Option, Result, ◌==◌, nat_lt}
+use Rattle.std.specs.Prelude.{ℕ, Bool, true, false, cond, List, [], ◌∷◌, ◌++◌, length, Some, None, Ok, Err, Option, Result, ◌==◌, nat_lt}
 use Rattle.bounded.specs.Buffer.{held}
 use Rattle.hexadecimal.specs.declared.text.TextFault.TheVariants.{NotHexadecimal}
 use Rattle.trace.specs.Lines.{line_frame}

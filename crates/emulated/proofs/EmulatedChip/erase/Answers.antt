@@ -1,4 +1,4 @@
-use Rattle.std.proofs.Common.{◌≡◌, ℕ, ◌+◌, ◌<◌, ◌≤◌, min, length, get_or, set, sym, refl, ap, ◌∙◌, subst, arith}
+use Rattle.std.proofs.Common.{◌+◌, ◌<◌, ◌≤◌, min, length, get_or, set, sym, refl, ap, ◌∙◌, subst, arith}
 use Rattle.flash.specs.Meaning.{erased}
 use Rattle.flash.specs.Calls.{after, erase_answer}
 use Rattle.emulated.specs.Held.{held}

@@ -1,4 +1,4 @@
-use Rattle.std.proofs.Common.{ℕ, sym, ap, ◌∙◌}
+use Rattle.std.proofs.Common.{sym, ◌∙◌}
 use Rattle.emulated.proofs.Answers.{geometry_is}
 use Rattle.emulated.proofs.EmulatedChip.geometry.Goals as goal
 

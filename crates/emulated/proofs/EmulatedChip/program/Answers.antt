@@ -1,4 +1,4 @@
-use Rattle.std.proofs.Common.{◌≡◌, ℕ, ◌+◌, ◌-◌, ◌*◌, ◌<◌, ◌≤◌, length, get_or, set, sym, refl, ap, ◌∙◌, subst, arith, length-set}
+use Rattle.std.proofs.Common.{◌≡◌, ◌+◌, ◌*◌, ◌<◌, ◌≤◌, length, set, sym, refl, ap, ◌∙◌, subst, arith, length-set}
 use lib.Seq.{paste}
 use Rattle.flash.specs.Meaning.{page_of, programmed}
 use Rattle.flash.specs.Calls.{after, program_answer}

@@ -1,7 +1,6 @@
-use Rattle.std.proofs.Common.{◌≡◌, ℕ, ◌+◌, ◌-◌, ◌*◌, ◌<◌, ◌≤◌, length, get_or, take, drop, sym, refl, ap, ◌∙◌, subst, arith}
+use Rattle.std.proofs.Common.{length, sym, ap, ◌∙◌, subst, arith}
 use Rattle.flash.specs.Meaning.{page}
 use Rattle.flash.specs.Calls.{after, read_answer}
-use Rattle.emulated.specs.Held.{place}
 use Rattle.emulated.specs.Meaning.{emulated}
 use Rattle.emulated.specs.Laws.{Room, served_room, bytes_in}
 use Rattle.emulated.proofs.Lines.{view}

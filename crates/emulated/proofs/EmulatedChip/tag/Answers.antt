@@ -1,6 +1,5 @@
-use Rattle.std.proofs.Common.{◌≡◌, ℕ, ◌+◌, ◌*◌, ◌%◌, ◌<◌, ◌≤◌, length, get_or, Ok, sym, ap, ◌∙◌, subst, arith}
+use Rattle.std.proofs.Common.{ℕ, length, Ok, sym, ap, ◌∙◌, subst, arith}
 use Rattle.flash.specs.Calls.{tag_answer}
-use Rattle.emulated.specs.Held.{place}
 use Rattle.emulated.specs.Laws.{Room, served_room, place_lt}
 use Rattle.emulated.proofs.Lines.{view}
 use Rattle.emulated.proofs.Answers.{past, over, tag_turn, tag_in}

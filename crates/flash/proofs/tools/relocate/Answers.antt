@@ -1,11 +1,11 @@
-use Rattle.std.proofs.Common.{◌≡◌, ℕ, ◌+◌, ◌<◌, ◌≤◌, List, [], ◌∷◌, ◌++◌, length, take, Ok, Err, Result, sym, refl, ap, ◌∙◌, subst, arith, take_all, MatchResult}
+use Rattle.std.proofs.Common.{◌≡◌, ◌<◌, ◌≤◌, List, [], ◌∷◌, ◌++◌, length, take, Ok, Result, sym, ap, ◌∙◌, subst, arith, take_all, MatchResult}
 use Rattle.std.proofs.lemmas.Result.{MatchResult-at_ok}
 use Rattle.flash.specs.declared.Refusal.{Refusal}
-use Rattle.flash.specs.Meaning.{Flash, Page, Op, program, erase, block, page, applies}
+use Rattle.flash.specs.Meaning.{Page, Op, program, erase, block, page, applies}
 use Rattle.flash.specs.Calls.{after, erase_answer}
 use Rattle.flash.specs.Tools.{copies, moves, copy_answer, relocate_answer, done, last_read}
 use Rattle.flash.proofs.Tests.{never_both}
-use Rattle.flash.proofs.Moves.{Movable, movable, copy_goes, page_stays, erase_goes, copies_more, last_more}
+use Rattle.flash.proofs.Moves.{movable, copy_goes, page_stays, erase_goes, copies_more, last_more}
 use Rattle.flash.proofs.tools.relocate.Goals as goal
 
 -- no copy of a relocation that was let begin is refused

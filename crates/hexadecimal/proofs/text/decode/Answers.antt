@@ -1,4 +1,4 @@
-use Rattle.std.proofs.Common.{◌≡◌, ◌+◌, ◌*◌, ◌%◌, ◌<◌, ◌≤◌, true, cond, [], ◌∷◌, ◌++◌, length, get_or, drop, Some, None, sym, ap, ◌∙◌, append-nil, arith, length-append, lt-ltb, eqb-true, false-eqb}
+use Rattle.std.proofs.Common.{◌≡◌, ◌+◌, ◌*◌, cond, [], ◌∷◌, ◌++◌, length, drop, Some, None, sym, ap, ◌∙◌, append-nil, arith, length-append, lt-ltb, eqb-true, false-eqb}
 use lib.Seq.{drop-length}
 use Rattle.bounded.specs.Buffer.{held}
 use Rattle.hexadecimal.specs.Text.{decoded, put, line_bytes}

@@ -1,4 +1,4 @@
-use Rattle.std.proofs.Common.{◌≡◌, ◌^◌, ◌<◌, [], ◌∷◌, ◌++◌, take, codes, sym, ap, ◌∙◌, subst, arith}
+use Rattle.std.proofs.Common.{◌<◌, [], ◌∷◌, ◌++◌, take, codes, ap, ◌∙◌, subst, arith}
 use Rattle.bounded.specs.Buffer.{held}
 use Rattle.bounded.proofs.Fronts.{appends_more, appends_all}
 use Rattle.trace.specs.Faults.{cause_number, layer_of}

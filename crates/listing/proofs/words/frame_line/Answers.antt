@@ -1,4 +1,4 @@
-use Rattle.std.proofs.Common.{◌≡◌, ◌<◌, ◌≤◌, List, [], ◌∷◌, ◌++◌, length, take, codes, sym, ap, ◌∙◌, subst, arith, lit≤}
+use Rattle.std.proofs.Common.{◌≡◌, ◌≤◌, [], ◌∷◌, ◌++◌, length, take, codes, sym, ap, ◌∙◌, arith, lit≤}
 use Rattle.bounded.specs.Buffer.{held}
 use Rattle.bounded.specs.declared.bytes.Bytes.{Bytes}
 use Rattle.bounded.proofs.Fronts.{Appends, appends_more, appends_all}

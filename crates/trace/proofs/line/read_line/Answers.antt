@@ -1,6 +1,5 @@
 use Rattle.std.proofs.Common.{◌≡◌, Ok, Err, sym, ap, ◌∙◌}
 use Rattle.std.proofs.lemmas.Result.{err_from_is_err_and}
-use Rattle.bounded.specs.Buffer.{held}
 use Rattle.trace.specs.Frames.{frame_of}
 use Rattle.trace.specs.Lines.{caused, given, line_frame}
 use Rattle.trace.specs.declared.fault.Cause.TheVariants.{Text}

@@ -1,4 +1,4 @@
-use Rattle.std.proofs.Common.{◌≡◌, ◌<◌, ◌≤◌, [], ◌∷◌, ◌++◌, length, get_or, take, sym, ap, ◌∙◌, append_assoc, arith, take_all}
+use Rattle.std.proofs.Common.{◌<◌, ◌≤◌, [], ◌∷◌, ◌++◌, length, get_or, take, sym, ap, ◌∙◌, append_assoc, arith, take_all}
 use Rattle.std.proofs.lemmas.List.{take_more}
 use Rattle.bounded.specs.Buffer.{held}
 use Rattle.bounded.proofs.Fronts.{pushed_more, held_front}
