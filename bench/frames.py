@@ -2,7 +2,7 @@
 """frames.py: measures the program `frames` against a plain Rust program that does the same (frames.rs), side by side.
 
 A trace of about 100 MB goes through both to /dev/null, in turn, five times each; then the peak memory of `frames` is measured on a
-single line of 400 MB. Build `frames` first: rt check frames. The plain program is built here with rustc -O.
+single line of 400 MB. Build `frames` first, at the top: (cd crates/frames && rt run < /dev/null). The plain program is built here with rustc -O.
 """
 import os
 import random
@@ -13,7 +13,7 @@ import tempfile
 import time
 
 HERE = os.path.dirname(os.path.abspath(__file__))
-FRAMES = os.path.join(HERE, "..", "target", "bin", "frames")
+FRAMES = os.path.join(HERE, "..", "crates", "frames", "out", "frames")
 ROUNDS = 5
 
 
@@ -46,7 +46,7 @@ def seconds(program, path):
 
 def main():
     if not os.path.exists(FRAMES):
-        sys.exit("build it first: rt check frames")
+        sys.exit("build it first: (cd crates/frames && rt run < /dev/null)")
     with tempfile.TemporaryDirectory() as folder:
         plain = os.path.join(folder, "plain")
         subprocess.run(["rustc", "-O", "-o", plain, os.path.join(HERE, "frames.rs")], check=True)

@@ -3,7 +3,7 @@
 --   run B    the same with L 1 and T 1, and only page 0 written
 --   run C    six blocks of three one-byte pages in sets of two, E 100, k 1, T 1, L 10, cost-benefit: 34 writes
 --   Row      what a write did to the chip, and flags, counters and erase counts after it
-use Rattle.std.specs.Prelude.{◌≡◌, ℕ, suc, pred, Bool, true, false, List, [], ◌∷◌, ◌++◌, map, get_or, replicate, Some, None, Ok, Err, Option, slice_index_or, refl}
+use Rattle.std.specs.Prelude.{◌≡◌, ℕ, suc, pred, Bool, true, false, List, [], ◌∷◌, ◌++◌, map, replicate, Some, None, Ok, Err, Option, slice_index_or, refl}
 use Rattle.orders.specs.Ranks.{fewest_live, cost_benefit}
 use Rattle.orders.specs.Worked.{block}
 use Rattle.flash.specs.Meaning.{Flash, Page, Block, Op, program, erase, page_of, blank, no_chip}
@@ -123,8 +123,8 @@ pub record WorkedExamples : Type 0 where
       row (program 1 (page_of 1 (2 ∷ [])) ∷ erase 2 ∷ program 1 (page_of 0 (23 ∷ [])) ∷ []) (true ∷ true ∷ true ∷ false ∷ []) 5 3 2 1 (4 ∷ 3 ∷ 4 ∷ 2 ∷ []) ∷
       row (erase 0 ∷ program 2 (page_of 0 (24 ∷ [])) ∷ program 0 (page_of 2 (3 ∷ [])) ∷ program 0 (page_of 3 (4 ∷ [])) ∷ erase 3 ∷ []) (true ∷ true ∷ true ∷ true ∷ []) 7 4 0 1 (5 ∷ 3 ∷ 4 ∷ 3 ∷ []) ∷ []
   -- what writes 7 and 14 answer
-  pub seventh_answers : get_or (map (λ o. o.answer) run_a) 6 (Err Empty) ≡ Ok (record { erases = 1; copied = 1 })
-  pub fourteenth_answers : get_or (map (λ o. o.answer) run_a) 13 (Err Empty) ≡ Ok (record { erases = 2; copied = 2 })
+  pub seventh_answers : slice_index_or (map (λ o. o.answer) run_a) 6 (Err Empty) ≡ Ok (record { erases = 1; copied = 1 })
+  pub fourteenth_answers : slice_index_or (map (λ o. o.answer) run_a) 13 (Err Empty) ≡ Ok (record { erases = 2; copied = 2 })
   -- the whole leveller and its chip
   pub seventh : after_write 7 run_a ≡
       whole 2 (settings 0 2 4) (at 3 1 ∷ at 3 0 ∷ at 1 0 ∷ at 1 1 ∷ []) (Free ∷ Closed ∷ Closed ∷ Open ∷ []) (0 ∷ 0 ∷ 0 ∷ 0 ∷ [])
@@ -139,15 +139,15 @@ pub record WorkedExamples : Type 0 where
       whole 2 (settings 0 2 4) (at 2 0 ∷ at 1 0 ∷ at 0 0 ∷ at 0 1 ∷ []) (Closed ∷ Closed ∷ Open ∷ Free ∷ []) (1 ∷ 1 ∷ 1 ∷ 0 ∷ [])
       (meter (true ∷ true ∷ true ∷ true ∷ []) 7 4 0 1) (holds 5 (wrote 2 3 ∷ wrote 3 4 ∷ []) ∷ holds 3 (wrote 1 2 ∷ wrote 0 23 ∷ []) ∷ holds 4 (wrote 0 24 ∷ []) ∷ holds 3 ([]) ∷ [])
   -- run B: the seventh write erases 0, 1, 2, 3, copies one page and ends the round, and so does the thirteenth
-  pub one_page : get_or (map row_of run_b) 6 (row [] [] 0 0 0 0 []) ≡ row (erase 0 ∷ program 3 (page_of 0 (7 ∷ [])) ∷ erase 1 ∷ erase 2 ∷ program 0 (page_of 0 (7 ∷ [])) ∷ erase 3 ∷ []) (false ∷ false ∷ false ∷ false ∷ []) 0 0 0 1 (1 ∷ 1 ∷ 1 ∷ 1 ∷ [])
-  pub one_page_answers : get_or (map (λ o. o.answer) run_b) 6 (Err Empty) ≡ Ok (record { erases = 4; copied = 1 })
-  pub one_page_again : get_or (map row_of run_b) 12 (row [] [] 0 0 0 0 []) ≡ row (erase 0 ∷ program 3 (page_of 0 (13 ∷ [])) ∷ erase 1 ∷ erase 2 ∷ program 0 (page_of 0 (13 ∷ [])) ∷ erase 3 ∷ []) (false ∷ false ∷ false ∷ false ∷ []) 0 0 0 2 (2 ∷ 2 ∷ 2 ∷ 2 ∷ [])
+  pub one_page : slice_index_or (map row_of run_b) 6 (row [] [] 0 0 0 0 []) ≡ row (erase 0 ∷ program 3 (page_of 0 (7 ∷ [])) ∷ erase 1 ∷ erase 2 ∷ program 0 (page_of 0 (7 ∷ [])) ∷ erase 3 ∷ []) (false ∷ false ∷ false ∷ false ∷ []) 0 0 0 1 (1 ∷ 1 ∷ 1 ∷ 1 ∷ [])
+  pub one_page_answers : slice_index_or (map (λ o. o.answer) run_b) 6 (Err Empty) ≡ Ok (record { erases = 4; copied = 1 })
+  pub one_page_again : slice_index_or (map row_of run_b) 12 (row [] [] 0 0 0 0 []) ≡ row (erase 0 ∷ program 3 (page_of 0 (13 ∷ [])) ∷ erase 1 ∷ erase 2 ∷ program 0 (page_of 0 (13 ∷ [])) ∷ erase 3 ∷ []) (false ∷ false ∷ false ∷ false ∷ []) 0 0 0 2 (2 ∷ 2 ∷ 2 ∷ 2 ∷ [])
   -- run C: ages and live pages choose the victims, and sets have two blocks
   pub by_age : after_write 34 run_c ≡
       whole 3 (settings 1 1 10) (at 1 1 ∷ at 4 1 ∷ at 3 0 ∷ at 0 0 ∷ at 3 1 ∷ at 0 1 ∷ at 4 0 ∷ at 2 0 ∷ at 2 1 ∷ at 1 0 ∷ []) (Closed ∷ Closed ∷ Closed ∷ Closed ∷ Open ∷ Free ∷ []) (8 ∷ 8 ∷ 7 ∷ 8 ∷ 8 ∷ 8 ∷ [])
       (meter (false ∷ false ∷ false ∷ []) 0 0 0 9)
       (holds 7 (wrote 3 21 ∷ wrote 5 31 ∷ []) ∷ holds 8 (wrote 9 19 ∷ wrote 0 33 ∷ []) ∷ holds 5 (wrote 7 8 ∷ wrote 8 9 ∷ []) ∷ holds 7 (wrote 2 3 ∷ wrote 4 16 ∷ []) ∷ holds 9 (wrote 6 28 ∷ wrote 1 34 ∷ []) ∷ holds 9 ([]) ∷ [])
-  -- cost_benefit, P 4: v 2 age 7 goes before v 1 age 2 (3.5 against 3); v 0 age 1 goes before v 1 age 100
+  -- cost-benefit, P 4: v 2 age 7 goes before v 1 age 2 (3.5 against 3); v 0 age 1 goes before v 1 age 100
   pub exact_figures : cost_benefit (block 1 0 2 4 7 refl) (block 0 0 1 4 2 refl) ≡ true
   pub not_the_other_way : cost_benefit (block 0 0 1 4 2 refl) (block 1 0 2 4 7 refl) ≡ false
   pub no_live_page : cost_benefit (block 1 0 0 4 1 refl) (block 0 0 1 4 100 refl) ≡ true
