@@ -1,15 +1,12 @@
 //! Numbers as decimal text.
 ghost use Rattle.std.specs.Prelude.{◌≡◌, ◌++◌, take, decimal};
-ghost use Rattle.bounded.specs.Buffer.{held};
 
 use crate::bytes::Bytes;
+use itoa::Buffer;
 
 /// Appends the digits of `n`, without leading zeros, as far as there is room.
 pub fn append_decimal<const N: usize>(out: &mut Bytes<N>, n: u64)
-    ensures { held out.new ≡ take N (held out.old ++ decimal n) }
+    ensures { out.new ≡ take N (out.old ++ decimal n) }
 {
-    if n >= 10 {
-        append_decimal(out, n / 10);
-    }
-    let _ = out.push(b'0' + (n % 10) as u8);
+    out.append(Buffer::new().format(n).as_bytes());
 }

@@ -1,22 +1,24 @@
-use Rattle.std.proofs.Common.{◌<◌, ◌≤◌, [], ◌∷◌, ◌++◌, length, get_or, take, sym, ap, ◌∙◌, append_assoc, arith, take_all}
-use Rattle.std.proofs.lemmas.List.{take_more}
-use Rattle.bounded.specs.Buffer.{held}
-use Rattle.bounded.proofs.Fronts.{pushed_more, held_front}
+use Rattle.std.proofs.Common.{◌≡◌, ◌≤◌, ◌++◌, ◌+◌, ◌-◌, ℕ, List, length, take, sym, ap, ◌∙◌, arith, length-take-le, min}
+use Rattle.std.proofs.Math.Seq.{take-append-add}
+use Rattle.std.proofs.lemmas.List.{take_min}
+use Rattle.std.proofs.lemmas.Slice.{take-put_mid}
 use Rattle.bounded.proofs.bytes.Bytes.append.Goals as goal
 
-pub loop-byte-init : goal.loop-byte-init
-loop-byte-init g c = held_front c.args.self.now
-
-pub loop-byte-preserved : goal.loop-byte-preserved
-loop-byte-preserved g c =
-    let more = c.args.more.now in
-    let i = c.loop-byte.byte-index in
-    let begun = held c.args.self.now in
-    let inside : i < length more = omega arith in
-    pushed_more c.loop-byte.self c.push.new.self (get_or more i 0) c.push.result (begun ++ take i more) c.push.ensures.room c.push.ensures.keeps c.loop-byte.invariant
-    ∙ ap (take g.row.N) (append_assoc begun (take i more) (get_or more i 0 ∷ []) ∙ ap (λ l. begun ++ l) (sym (take_more more i 0 inside)))
+-- what is kept, and a front of more as far as there is room
+fitted : (n k : ℕ) (xs ys : List ℕ) → length xs ≤ n → k ≡ min (length ys) (n - length xs) → xs ++ take k ys ≡ take n (xs ++ ys)
+fitted n k xs ys h e =
+    let room : length xs + (n - length xs) ≡ n = omega arith in
+    let same : k ≡ min (n - length xs) (length ys) = omega arith in
+    ap (λ j. xs ++ take j ys) same ∙ ap (λ l. xs ++ l) (take_min (n - length xs) ys) ∙ sym (take-append-add xs ys (n - length xs)) ∙ ap (λ j. take j (xs ++ ys)) room
 
 pub returns : goal.returns
 returns g c =
-    let done : length c.args.more.now ≤ c.loop-byte.byte-index = omega arith in
-    c.loop-byte.invariant ∙ ap (λ l. take g.row.N (held c.args.self.now ++ l)) (take_all c.loop-byte.byte-index c.args.more.now done)
+    let len = c.self.inside.len in
+    let items = c.self.inside.items in
+    let count = c.min-count.result in
+    let inside : len ≤ length items = omega arith in
+    let kept = length-take-le len items inside in
+    let copied = c.copy_from_slice.ensures.after in
+    let size = ap length copied ∙ length-take-le count c.args.more.now (omega arith) in
+    take-put_mid len (len + count - len) items c.copy_from_slice.new.self (len + count) (omega arith) inside
+    ∙ ap (λ l. take len items ++ l) copied ∙ fitted g.row.N count (take len items) c.args.more.now (omega arith) (omega arith) ∙ ap (λ l. take g.row.N (l ++ c.args.more.now)) c.self.view_is
