@@ -5,9 +5,7 @@ ghost use Rattle.std.specs.Prelude.{◌≡◌, ◌%◌, sum};
 pub fn check_sum(bytes: &[u8]) -> u8
     ensures { result ≡ sum bytes.now % 256 }
 {
-    let mut total = 0u8;
-    for byte in bytes {
-        total = total.wrapping_add(*byte);
-    }
-    total
+    bytes
+        .iter()
+        .fold(0u8, |total, byte| total.wrapping_add(*byte))
 }

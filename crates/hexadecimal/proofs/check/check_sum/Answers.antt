@@ -1,13 +1,11 @@
-use Rattle.std.proofs.Common.{◌<◌, ◌≤◌, length, arith, take_all}
-use Rattle.std.proofs.lemmas.List.Sums.{sum_by_more}
+use Rattle.std.proofs.Common.{◌≡◌, ◌%◌, ◌+◌, sum, rules, arith, ap, ◌∙◌, refl}
+use Rattle.std.proofs.lemmas.Fn.{fold_over, fronts, slice_gives}
+use Rattle.std.proofs.lemmas.List.Sums.{sum_by_push}
 use Rattle.hexadecimal.proofs.check.check_sum.Goals as goal
-
-pub loop-byte-preserved : goal.loop-byte-preserved
-loop-byte-preserved c =
-    let h : c.loop-byte.byte-index < length c.args.bytes.now = omega arith in
-    omega (arith, sum_by_more (λ x. x) c.args.bytes.now c.loop-byte.byte-index 0 h, c.loop-byte.invariant)
 
 pub returns : goal.returns
 returns c =
-    let h : length c.args.bytes.now ≤ c.loop-byte.byte-index = omega arith in
-    rw (take_all c.loop-byte.byte-index c.args.bytes.now h) at c.loop-byte.invariant
+    fold_over fronts (λ y. y.now) _ (λ xs total. total ≡ sum xs % 256) _ (λ xs total x next f so_far call.
+    let added : next ≡ (total + x.now) % 256 = search rules in
+    (omega (arith, sum_by_push (λ y. y) xs x.now), search rules)) c.iter.result _ 0 c.fold.result (slice_gives c.iter.result) refl c.fold.ensures.ran
+    ∙ ap (λ xs. sum xs % 256) c.iter.ensures.rest
