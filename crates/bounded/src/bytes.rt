@@ -1,5 +1,5 @@
 //! A buffer that keeps a bounded number of bytes.
-ghost use Rattle.std.specs.Prelude.{◌≡◌, ◌≤◌, [], ◌∷◌, ◌++◌, length, take, if◌then◌else◌, nat_lt, Ok, Err};
+ghost use Rattle.std.specs.Prelude.{◌≡◌, ℕ, ◌≤◌, List, [], ◌∷◌, ◌++◌, length, take, if◌then◌else◌, nat_lt, Ok, Err};
 
 use std::marker::Model;
 
@@ -16,8 +16,6 @@ pub struct Bytes<const N: usize> {
 
 // Clauses see the bytes, in the order in which they came.
 impl<const N: usize> Model for Bytes<N> {
-    ghost use Rattle.std.specs.Prelude.{ℕ, ◌≤◌, List, take};
-
     ghost Value = { List ℕ };
 
     ghost view = { λ b. take b.len b.items };

@@ -8,7 +8,7 @@ use Rattle.hexadecimal.specs.Text.{line_bytes, Spells}
 use Rattle.hexadecimal.specs.declared.text.TextFault.{TextFault}
 use Rattle.hexadecimal.specs.declared.text.TextFault.TheVariants.{NotHexadecimal}
 use Rattle.hexadecimal.proofs.Spelling.{line_spells, line_spelled}
-use Rattle.trace.specs.Frames.{two, order_byte, body, check_byte, frame_bytes, at, at2, at4, shaped, settings, setup_of, formed, frame_of}
+use Rattle.trace.specs.Frames.{two, order_byte, body, check_byte, frame_bytes, at, at2, at4, shaped, settings, order_of, setup_under, setup_of, formed, frame_of}
 use Rattle.trace.specs.Lines.{caused, given, line_frame, Accepts}
 use Rattle.trace.specs.declared.fault.FrameFault.{FrameFault}
 use Rattle.trace.specs.declared.fault.FrameFault.TheVariants.{WrongCheck, WrongForm}
@@ -38,14 +38,13 @@ two_back n = omega arith
 four_back : (n : ℕ) → (n / 16777216 * 256 + n / 65536 % 256) * 65536 + (n / 256 % 256 * 256 + n % 256) ≡ n
 four_back n = omega arith
 
-settings_back : (s : Settings) (o : OrderKind) → s.order ≡ o → settings (frame_bytes (Setup s)) o ≡ s
-settings_back s o e =
+settings_back : (s : Settings) → settings (frame_bytes (Setup s)) s.order ≡ s
+settings_back s =
     let blocks = two_back s.blocks in
     let bytes = two_back s.bytes in
     let erases = four_back s.erases in
     let threshold = two_back s.threshold in
     let logical = two_back s.logical in
-    let order = sym e in
     λ i. record {
       blocks = blocks i;
       pages = s.pages;
@@ -53,25 +52,27 @@ settings_back s o e =
       erases = erases i;
       k = s.k;
       threshold = threshold i;
-      order = order i;
+      order = s.order;
       logical = logical i;
     }
 
--- the setup that an order byte chooses
-abbrev chosen : Settings → ℕ → Result Frame FrameFault
-chosen s b =
-    cond (eqb b 0) (Ok (Setup (settings (frame_bytes (Setup s)) FewestLive)))
-    (cond (eqb b 1) (Ok (Setup (settings (frame_bytes (Setup s)) CostBenefit))) (Err WrongForm))
+-- an order is read back from its byte, and only from it
+order_back : (o : OrderKind) → order_of (order_byte o) ≡ Ok o
+order_back FewestLive = refl
+order_back CostBenefit = refl
 
-setup_back : (s : Settings) (o : OrderKind) → s.order ≡ o → setup_of (frame_bytes (Setup s)) ≡ Ok (Setup s)
-setup_back s FewestLive e = ap (chosen s) (ap order_byte e) ∙ ap (λ t. Ok (Setup t)) (settings_back s FewestLive e)
-setup_back s CostBenefit e = ap (chosen s) (ap order_byte e) ∙ ap (λ t. Ok (Setup t)) (settings_back s CostBenefit e)
+order_only : (b : ℕ) (o : OrderKind) → order_of b ≡ Ok o → b ≡ order_byte o
+order_only b o e = go (eqb b 0) (eqb b 1) refl refl e where
+  go : (x y : Bool) → eqb b 0 ≡ x → eqb b 1 ≡ y → cond x (Ok FewestLive) (cond y (Ok CostBenefit) (Err WrongForm)) ≡ Ok o → b ≡ order_byte o
+  go true y p q r = let is : FewestLive ≡ o = cc in eqb-true b 0 p ∙ ap order_byte is
+  go false true p q r = let is : CostBenefit ≡ o = cc in eqb-true b 1 q ∙ ap order_byte is
+  go false false p q r = absurd (refused_none r)
 
 pub read_back : (f : Frame) → frame_of (frame_bytes f) ≡ Ok f
 read_back (Write page fill) = rw (eq-eqb _ 0 (checked (body (Write page fill)))) (ap (λ n. Ok (Write n fill)) (two_back page))
 read_back (Discard page) = rw (eq-eqb _ 0 (checked (body (Discard page)))) (ap (λ n. Ok (Discard n)) (two_back page))
 read_back (Read page) = rw (eq-eqb _ 0 (checked (body (Read page)))) (ap (λ n. Ok (Read n)) (two_back page))
-read_back (Setup s) = rw (eq-eqb _ 0 (checked (body (Setup s)))) (setup_back s s.order refl)
+read_back (Setup s) = rw (eq-eqb _ 0 (checked (body (Setup s)))) (ap (setup_under (frame_bytes (Setup s))) (order_back s.order) ∙ ap (λ t. Ok (Setup t)) (settings_back s))
 
 -- and only from them ---------------------------------------------------------------------------
 
@@ -133,11 +134,10 @@ module _ (bs : List ℕ) (small : (i : ℕ) → at bs i < 256) (sums : sum bs % 
       wired (Setup (settings bs o)) front (at bs 16) same (small 16) (subst (λ l. sum l % 256 ≡ 0) whole sums) ∙ sym whole
 
   setup_form : (f : Frame) → shaped 1 17 bs ≡ true → setup_of bs ≡ Ok f → frame_bytes f ≡ bs
-  setup_form f e q = go (eqb (at bs 13) 0) (eqb (at bs 13) 1) refl refl q where
-    go : (x y : Bool) → eqb (at bs 13) 0 ≡ x → eqb (at bs 13) 1 ≡ y → cond x (Ok (Setup (settings bs FewestLive))) (cond y (Ok (Setup (settings bs CostBenefit))) (Err WrongForm)) ≡ Ok f → frame_bytes f ≡ bs
-    go true y a b r = let is : Setup (settings bs FewestLive) ≡ f = cc in subst (λ g. frame_bytes g ≡ bs) is (setup_only FewestLive (eqb-true _ 0 a) e)
-    go false true a b r = let is : Setup (settings bs CostBenefit) ≡ f = cc in subst (λ g. frame_bytes g ≡ bs) is (setup_only CostBenefit (eqb-true _ 1 b) e)
-    go false false a b r = absurd (refused_none r)
+  setup_form f e q = go (order_of (at bs 13)) refl q where
+    go : (r : Result OrderKind FrameFault) → order_of (at bs 13) ≡ r → setup_under bs r ≡ Ok f → frame_bytes f ≡ bs
+    go (Ok o) p r = let is : Setup (settings bs o) ≡ f = cc in subst (λ g. frame_bytes g ≡ bs) is (setup_only o (order_only (at bs 13) o p) e)
+    go (Err x) p r = absurd (refused_none r)
 
   by_form : (f : Frame) → formed bs ≡ Ok f → frame_bytes f ≡ bs
   by_form f q = go (shaped 1 17 bs) (shaped 2 5 bs) (shaped 3 4 bs) (shaped 4 4 bs) refl refl refl refl q where

@@ -73,10 +73,17 @@ settings bs order = record {
   logical = at2 bs 14;
 }
 
+-- the order that an order byte chooses
+abbrev pub order_of : ℕ → Result OrderKind FrameFault
+order_of b = cond (b == 0) (Ok FewestLive) (cond (b == 1) (Ok CostBenefit) (Err WrongForm))
+
+-- the setup in a setup's bytes, under the order if there is one
+abbrev pub setup_under : List ℕ → Result OrderKind FrameFault → Result Frame FrameFault
+setup_under bs (Ok order) = Ok (Setup (settings bs order))
+setup_under bs (Err e) = Err e
+
 abbrev pub setup_of : List ℕ → Result Frame FrameFault
-setup_of bs =
-    cond (at bs 13 == 0) (Ok (Setup (settings bs FewestLive)))
-    (cond (at bs 13 == 1) (Ok (Setup (settings bs CostBenefit))) (Err WrongForm))
+setup_of bs = setup_under bs (order_of (at bs 13))
 
 -- the frame by kind and length
 abbrev pub formed : List ℕ → Result Frame FrameFault

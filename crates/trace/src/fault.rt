@@ -9,11 +9,11 @@ use hexadecimal::text::TextFault;
 #[derive(Clone, Copy, PartialEq, Eq, Debug)]
 pub enum FrameFault {
     /// The sum of all bytes is not 0 modulo 256.
-    WrongCheck,
+    WrongCheck = 19,
     /// The kind is unknown, the length is not that of the kind, or the order byte is above 1.
-    WrongForm,
+    WrongForm = 20,
     /// A setup that is not the first frame, another frame before the setup, or an input that ends without a setup.
-    WrongPlace,
+    WrongPlace = 21,
 }
 
 /// Why a line is faulty.
@@ -42,11 +42,7 @@ impl FrameFault {
     pub fn number(self) -> u8
         ensures { result ≡ frame_number self }
     {
-        match self {
-            FrameFault::WrongCheck => 19,
-            FrameFault::WrongForm => 20,
-            FrameFault::WrongPlace => 21,
-        }
+        self as u8
     }
 }
 

@@ -1,6 +1,6 @@
 //! The frames of a trace, and which frame a line's bytes are.
 ghost use Rattle.std.specs.Prelude.{◌≡◌};
-ghost use Rattle.trace.specs.Frames.{frame_of, formed};
+ghost use Rattle.trace.specs.Frames.{order_of, frame_of};
 
 use crate::fault::FrameFault;
 use hexadecimal::check::check_sum;
@@ -10,6 +10,21 @@ use hexadecimal::check::check_sum;
 pub enum OrderKind {
     FewestLive,
     CostBenefit,
+}
+
+impl TryFrom<u8> for OrderKind {
+    type Error = FrameFault;
+
+    ghost try_from_gives = { λ byte r. r ≡ order_of byte };
+
+    /// The order that a setup's order byte chooses.
+    fn try_from(byte: u8) -> Result<OrderKind, FrameFault> {
+        match byte {
+            0 => Ok(OrderKind::FewestLive),
+            1 => Ok(OrderKind::CostBenefit),
+            _ => Err(FrameFault::WrongForm),
+        }
+    }
 }
 
 /// What a trace sets up: the chip, and how its leveller is started.
@@ -42,59 +57,56 @@ pub enum Frame {
     Read { page: u16 },
 }
 
-/// The frame that a line's bytes are.
-pub fn decode_frame(bytes: &[u8]) -> Result<Frame, FrameFault>
-    ensures { result ≡ frame_of bytes.now }
-{
-    if check_sum(bytes) != 0 {
-        return Err(FrameFault::WrongCheck);
-    }
-    match bytes {
-        [
-            1,
-            n1,
-            n0,
-            p,
-            d1,
-            d0,
-            e3,
-            e2,
-            e1,
-            e0,
-            k,
-            t1,
-            t0,
-            order,
-            l1,
-            l0,
-            _,
-        ] => {
-            let order = match order {
-                0 => OrderKind::FewestLive,
-                1 => OrderKind::CostBenefit,
-                _ => return Err(FrameFault::WrongForm),
-            };
-            Ok(Frame::Setup(Settings {
+impl<'a> TryFrom<&'a [u8]> for Frame {
+    type Error = FrameFault;
+
+    ghost try_from_gives = { λ bytes r. r ≡ frame_of bytes.now };
+
+    /// The frame that a line's bytes are.
+    fn try_from(bytes: &'a [u8]) -> Result<Frame, FrameFault> {
+        if check_sum(bytes) != 0 {
+            return Err(FrameFault::WrongCheck);
+        }
+        match bytes {
+            [
+                1,
+                n1,
+                n0,
+                p,
+                d1,
+                d0,
+                e3,
+                e2,
+                e1,
+                e0,
+                k,
+                t1,
+                t0,
+                order,
+                l1,
+                l0,
+                _,
+            ] => Ok(Frame::Setup(Settings {
                 blocks: u16::from_be_bytes([*n1, *n0]),
                 pages: *p,
                 bytes: u16::from_be_bytes([*d1, *d0]),
                 erases: u32::from_be_bytes([*e3, *e2, *e1, *e0]),
                 k: *k,
                 threshold: u16::from_be_bytes([*t1, *t0]),
-                order,
+                order: OrderKind::try_from(*order)?,
                 logical: u16::from_be_bytes([*l1, *l0]),
-            }))
+            })),
+            [2, high, low, fill, _] => Ok(Frame::Write {
+                page: u16::from_be_bytes([*high, *low]),
+                fill: *fill,
+            }),
+            [3, high, low, _] => Ok(Frame::Discard {
+                page: u16::from_be_bytes([*high, *low]),
+            }),
+            [4, high, low, _] => Ok(Frame::Read {
+                page: u16::from_be_bytes([*high, *low]),
+            }),
+            _ => Err(FrameFault::WrongForm),
         }
-        [2, high, low, fill, _] => Ok(Frame::Write {
-            page: u16::from_be_bytes([*high, *low]),
-            fill: *fill,
-        }),
-        [3, high, low, _] => Ok(Frame::Discard {
-            page: u16::from_be_bytes([*high, *low]),
-        }),
-        [4, high, low, _] => Ok(Frame::Read {
-            page: u16::from_be_bytes([*high, *low]),
-        }),
-        _ => Err(FrameFault::WrongForm),
     }
 }
