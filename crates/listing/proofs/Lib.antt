@@ -1,1 +1,1 @@
-pub mod Spaces
+pub mod Lines

@@ -1,7 +1,6 @@
 //! Frames, faults and page counts in words, one blank apart, each on a line of its own.
-ghost use Rattle.std.specs.Prelude.{◌≡◌, ◌≤◌, ◌++◌, length, take};
-ghost use Rattle.bounded.specs.Buffer.{held};
-ghost use Rattle.listing.specs.Words.{labelled, order_word, layer_word, chip_words, start_words, frame_words, fault_words, busy_words, line_of};
+ghost use Rattle.std.specs.Prelude.{◌≡◌, [], ◌∷◌, ◌++◌};
+ghost use Rattle.listing.specs.Words.{fitted, labelled, order_word, layer_word, setup_words, frame_words, fault_words, busy_words, line_of};
 
 use bounded::bytes::Bytes;
 use bounded::decimal::append_decimal;
@@ -14,12 +13,30 @@ pub const LONGEST_WORDS: usize = 128;
 /// A line of words.
 pub type Words = Bytes<LONGEST_WORDS>;
 
+// No `Display` here: it promises its text only where `fmt` answers `Ok`, and these lines are promised for every frame and fault.
+
 /// Appends a label and a number, as far as there is room.
 fn append_labelled(out: &mut Words, label: &[u8], n: u64)
-    ensures { held out.new ≡ take 128 (held out.old ++ labelled label.now n) }
+    ensures { out.new ≡ fitted out.old (labelled label.now n) }
 {
     out.append(label);
     append_decimal(out, n);
+}
+
+/// Appends a label and a word, as far as there is room.
+fn append_named(out: &mut Words, label: &[u8], word: &[u8])
+    ensures { out.new ≡ fitted out.old (label.now ++ word.now) }
+{
+    out.append(label);
+    out.append(word);
+}
+
+/// Ends the line, as far as there is room.
+#[tactic(auto, unfolding(crate::specs::Words::fitted))]
+fn end_line(out: &mut Words)
+    ensures { out.new ≡ fitted out.old (10 ∷ []) }
+{
+    out.append(b"\n");
 }
 
 /// The word for an order.
@@ -42,85 +59,71 @@ fn layer_name(layer: Layer) -> &'static [u8]
     }
 }
 
-/// Appends the part of a setup that describes the chip.
-fn append_chip(out: &mut Words, s: &Settings)
-    ensures words { held out.new ≡ take 128 (held out.old ++ chip_words s.now) }
-    ensures short { length (chip_words s.now) ≤ 58 }
+/// The line of words for a setup.
+fn setup_line(settings: &Settings) -> Words
+    ensures { result ≡ line_of (setup_words settings.now) }
 {
     let Settings {
         blocks,
         pages,
         bytes,
         erases,
-        ..
-    } = s;
-    append_labelled(out, b"setup blocks ", u64::from(*blocks));
-    append_labelled(out, b" pages ", u64::from(*pages));
-    append_labelled(out, b" bytes ", u64::from(*bytes));
-    append_labelled(out, b" erases ", u64::from(*erases));
-}
-
-/// Appends the part of a setup that says how the leveller is started.
-fn append_start(out: &mut Words, s: &Settings)
-    ensures words { held out.new ≡ take 128 (held out.old ++ start_words s.now) }
-    ensures short { length (start_words s.now) ≤ 55 }
-{
-    let Settings {
         k,
         threshold,
         order,
         logical,
-        ..
-    } = s;
-    append_labelled(out, b" k ", u64::from(*k));
-    append_labelled(out, b" threshold ", u64::from(*threshold));
-    out.append(b" order ");
-    out.append(order_name(*order));
-    append_labelled(out, b" logical ", u64::from(*logical));
+    } = *settings;
+    let mut out = Words::new();
+    append_labelled(&mut out, b"setup blocks ", u64::from(blocks));
+    append_labelled(&mut out, b" pages ", u64::from(pages));
+    append_labelled(&mut out, b" bytes ", u64::from(bytes));
+    append_labelled(&mut out, b" erases ", u64::from(erases));
+    append_labelled(&mut out, b" k ", u64::from(k));
+    append_labelled(&mut out, b" threshold ", u64::from(threshold));
+    append_named(&mut out, b" order ", order_name(order));
+    append_labelled(&mut out, b" logical ", u64::from(logical));
+    end_line(&mut out);
+    out
 }
 
 /// The line of words for a frame.
 pub fn frame_line(frame: &Frame) -> Words
-    ensures { held result ≡ line_of (frame_words frame.now) }
+    ensures { result ≡ line_of (frame_words frame.now) }
 {
     let mut out = Words::new();
-    match frame {
-        Frame::Setup(s) => {
-            append_chip(&mut out, s);
-            append_start(&mut out, s);
-        }
+    match *frame {
+        Frame::Setup(settings) => return setup_line(&settings),
         Frame::Write { page, fill } => {
-            append_labelled(&mut out, b"write page ", u64::from(*page));
-            append_labelled(&mut out, b" fill ", u64::from(*fill));
+            append_labelled(&mut out, b"write page ", u64::from(page));
+            append_labelled(&mut out, b" fill ", u64::from(fill));
         }
-        Frame::Discard { page } => append_labelled(&mut out, b"discard page ", u64::from(*page)),
-        Frame::Read { page } => append_labelled(&mut out, b"read page ", u64::from(*page)),
+        Frame::Discard { page } => append_labelled(&mut out, b"discard page ", u64::from(page)),
+        Frame::Read { page } => append_labelled(&mut out, b"read page ", u64::from(page)),
     }
-    out.append(b"\n");
+    end_line(&mut out);
     out
 }
 
 /// The line of words for a fault.
 pub fn fault_line(fault: &Fault) -> Words
-    ensures { held result ≡ line_of (fault_words fault.now) }
+    ensures { result ≡ line_of (fault_words fault.now) }
 {
-    let Fault { cause, line } = fault;
+    let Fault { cause, line } = *fault;
     let mut out = Words::new();
     append_labelled(&mut out, b"fault ", u64::from(cause.number()));
-    append_labelled(&mut out, b" line ", *line);
-    out.append(b" ");
-    out.append(layer_name(cause.layer()));
-    out.append(b"\n");
+    append_labelled(&mut out, b" line ", line);
+    append_named(&mut out, b" ", layer_name(cause.layer()));
+    end_line(&mut out);
     out
 }
 
 /// The line of words for a page and how often it was written.
 pub fn busy_line(page: u16, writes: u64) -> Words
-    ensures { held result ≡ line_of (busy_words page writes) }
+    ensures { result ≡ line_of (busy_words page writes) }
 {
     let mut out = Words::new();
     append_labelled(&mut out, b"busy ", u64::from(page));
     append_labelled(&mut out, b" ", writes);
-    out.append(b"\n");
+    end_line(&mut out);
     out
 }

@@ -67,12 +67,12 @@ impl<'a> TryFrom<&'a [u8]> for Frame {
         if check_sum(bytes) != 0 {
             return Err(FrameFault::WrongCheck);
         }
-        match bytes {
+        match *bytes {
             [
                 1,
                 n1,
                 n0,
-                p,
+                pages,
                 d1,
                 d0,
                 e3,
@@ -87,24 +87,24 @@ impl<'a> TryFrom<&'a [u8]> for Frame {
                 l0,
                 _,
             ] => Ok(Frame::Setup(Settings {
-                blocks: u16::from_be_bytes([*n1, *n0]),
-                pages: *p,
-                bytes: u16::from_be_bytes([*d1, *d0]),
-                erases: u32::from_be_bytes([*e3, *e2, *e1, *e0]),
-                k: *k,
-                threshold: u16::from_be_bytes([*t1, *t0]),
-                order: OrderKind::try_from(*order)?,
-                logical: u16::from_be_bytes([*l1, *l0]),
+                blocks: u16::from_be_bytes([n1, n0]),
+                pages,
+                bytes: u16::from_be_bytes([d1, d0]),
+                erases: u32::from_be_bytes([e3, e2, e1, e0]),
+                k,
+                threshold: u16::from_be_bytes([t1, t0]),
+                order: OrderKind::try_from(order)?,
+                logical: u16::from_be_bytes([l1, l0]),
             })),
             [2, high, low, fill, _] => Ok(Frame::Write {
-                page: u16::from_be_bytes([*high, *low]),
-                fill: *fill,
+                page: u16::from_be_bytes([high, low]),
+                fill,
             }),
             [3, high, low, _] => Ok(Frame::Discard {
-                page: u16::from_be_bytes([*high, *low]),
+                page: u16::from_be_bytes([high, low]),
             }),
             [4, high, low, _] => Ok(Frame::Read {
-                page: u16::from_be_bytes([*high, *low]),
+                page: u16::from_be_bytes([high, low]),
             }),
             _ => Err(FrameFault::WrongForm),
         }
