@@ -1,7 +1,6 @@
 //! Whole inputs: how many frames they tell, and which fault ends them.
 use hexadecimal::text::TextFault;
 use trace::fault::{Cause, Fault, FrameFault};
-use trace::frame::Frame;
 use trace::reader::Reader;
 
 const NOT_HEX: Cause = Cause::Text(TextFault::NotHexadecimal);
@@ -10,22 +9,25 @@ const CHECK: Cause = Cause::Frame(FrameFault::WrongCheck);
 
 const PLACE: Cause = Cause::Frame(FrameFault::WrongPlace);
 
-/// Reads an input that comes byte by byte: how many frames it tells, and the fault.
-fn read(input: &[u8]) -> (u32, Option<Fault>) {
+/// Reads an input that comes byte by byte, and counts the frames that it tells.
+fn count(input: &[u8], frames: &mut u32) -> Result<(), Fault> {
     let mut reader = Reader::new();
-    let mut frames = 0u32;
     for byte in input {
-        match reader.push(*byte) {
-            Ok(Some(_)) => frames = frames.saturating_add(1),
-            Ok(None) => {}
-            Err(fault) => return (frames, Some(fault)),
+        if reader.push(*byte)?.is_some() {
+            *frames = frames.saturating_add(1);
         }
     }
-    match reader.finish() {
-        Ok(Some(_)) => (frames.saturating_add(1), None),
-        Ok(None) => (frames, None),
-        Err(fault) => (frames, Some(fault)),
+    if reader.finish()?.is_some() {
+        *frames = frames.saturating_add(1);
     }
+    Ok(())
+}
+
+/// How many frames an input tells, and the fault.
+fn read(input: &[u8]) -> (u32, Option<Fault>) {
+    let mut frames = 0;
+    let fault = count(input, &mut frames).err();
+    (frames, fault)
 }
 
 fn at(cause: Cause, line: u64) -> Option<Fault> {

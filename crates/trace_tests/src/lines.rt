@@ -1,5 +1,5 @@
 //! One line: each fault of the text and of the frame at its edges.
-use bounded::bytes::Bytes;
+use bounded::bytes::{Bytes, Full};
 use hexadecimal::text::{TextFault, digit};
 use trace::fault::{Cause, FrameFault};
 use trace::frame::Frame;
@@ -139,9 +139,9 @@ fn numbers(rt: HostRuntime) {
 #[test]
 fn full_buffer(rt: HostRuntime) {
     let mut bytes: Bytes<2> = Bytes::new();
-    assert!(rt; bytes.push(1));
+    assert_eq!(rt; bytes.push(1), Ok(()));
     bytes.append(&[2, 3]);
-    assert!(rt; !bytes.push(4), "there is no room");
+    assert_eq!(rt; bytes.push(4), Err(Full), "there is no room");
     assert!(rt; bytes.as_slice() == [1, 2].as_slice());
     bytes.clear();
     assert!(rt; bytes.as_slice().is_empty());
