@@ -1,7 +1,6 @@
 -- How the bytes of a text come one after another.
-use Rattle.std.proofs.Common.{◌≡◌, ℕ, ◌*◌, ◌%◌, ◌<◌, ◌≤◌, ◌&&◌, ltb, leb, List, [], ◌∷◌, ◌++◌, length, get_or, Some, None, Option, sym, refl, ap, ◌∙◌, append_assoc, arith, lt-ltb, le-leb}
-use borrow.Author.Tests.{lt-leb}
-use Rattle.std.proofs.lemmas.Bool.{cond_both}
+use Rattle.std.proofs.Common.{◌≡◌, ℕ, ◌*◌, ◌%◌, ◌<◌, ◌≤◌, List, [], ◌∷◌, ◌++◌, length, get_or, Some, None, Option, sym, refl, ap, ◌∙◌, append_assoc, arith}
+use Rattle.std.proofs.lemmas.Bool.Decides.{nat_tests}
 use Rattle.hexadecimal.specs.Text.{pair_value, put, decoded, line_bytes}
 
 -- bytes that stand before those of the rest of a text
@@ -35,13 +34,13 @@ decoded_odd (d ∷ e ∷ ds) h = rw (decoded_odd ds (omega arith)) (put_none (pa
 
 -- a line that is refused, and one that is within the bounds
 pub refused : (n : ℕ) (ds : List ℕ) → decoded ds ≡ None → line_bytes n ds ≡ None
-refused n ds e = cond_both (ltb 0 (length ds) && leb (length ds) (2 * n)) (decoded ds) None (λ x. x ≡ None) (λ _. e) (λ _. refl)
+refused n ds e = grind (arith, nat_tests)
 
 pub bounded : (n : ℕ) (ds : List ℕ) → 0 < length ds → length ds ≤ 2 * n → line_bytes n ds ≡ decoded ds
-bounded n ds h k = simp (lt-ltb 0 (length ds) h, le-leb (length ds) (2 * n) k)
+bounded n ds h k = grind (arith, nat_tests)
 
 pub empty : (n : ℕ) (ds : List ℕ) → length ds ≡ 0 → line_bytes n ds ≡ None
-empty n ds h = simp (h)
+empty n ds h = grind (arith, nat_tests)
 
 pub too_long : (n : ℕ) (ds : List ℕ) → 2 * n < length ds → line_bytes n ds ≡ None
-too_long n ds h = simp (lt-ltb 0 (length ds) (omega arith), lt-leb (length ds) (2 * n) h)
+too_long n ds h = grind (arith, nat_tests)

@@ -22,12 +22,12 @@ plain_more (d ∷ cs) c p e = (p.0, plain_more cs c p.1 e)
 
 -- its lines, alone, before a line feed, and before one character more
 one_line : (c : ℕ) (cs : List ℕ) → Plain (c ∷ cs) → lines (c ∷ cs) ≡ (c ∷ cs) ∷ []
-one_line c [] p = ap (λ b. cond b ([] ∷ []) (onto c [])) p.0
-one_line c (d ∷ cs) p = ap (λ b. cond b ([] ∷ lines (d ∷ cs)) (onto c (lines (d ∷ cs)))) p.0 ∙ ap (onto c) (one_line d cs p.1)
+one_line c [] p = simp p.0
+one_line c (d ∷ cs) p = simp p.0 (ap (onto c) (one_line d cs p.1))
 
 line_before : (cs rest : List ℕ) → Plain cs → lines (cs ++ 10 ∷ rest) ≡ cs ∷ lines rest
 line_before [] rest p = refl
-line_before (c ∷ cs) rest p = ap (λ b. cond b ([] ∷ lines (cs ++ 10 ∷ rest)) (onto c (lines (cs ++ 10 ∷ rest)))) p.0 ∙ ap (onto c) (line_before cs rest p.1)
+line_before (c ∷ cs) rest p = simp p.0 (ap (onto c) (line_before cs rest p.1))
 
 -- a line that begins so
 pub record Begins (cs : List ℕ) (text : List ℕ) : Type 0 where
@@ -39,8 +39,8 @@ pub record Begins (cs : List ℕ) (text : List ℕ) : Type 0 where
 begins_onto : (c : ℕ) (text : List ℕ) → eqb c 10 ≡ false → Begins (c ∷ []) (c ∷ text)
 begins_onto c text e = go (lines text) refl where
   go : (ls : List (List ℕ)) → lines text ≡ ls → Begins (c ∷ []) (c ∷ text)
-  go [] p = record { line = c ∷ []; others = []; splits = ap (λ b. cond b ([] ∷ lines text) (onto c (lines text))) e ∙ ap (onto c) p; long = omega arith }
-  go (l ∷ ls) p = record { line = c ∷ l; others = ls; splits = ap (λ b. cond b ([] ∷ lines text) (onto c (lines text))) e ∙ ap (onto c) p; long = omega arith }
+  go [] p = record { line = c ∷ []; others = []; splits = simp (e, p); long = omega arith }
+  go (l ∷ ls) p = record { line = c ∷ l; others = ls; splits = simp (e, p); long = omega arith }
 
 begins : (cs : List ℕ) (c : ℕ) (rest : List ℕ) → Plain cs → eqb c 10 ≡ false → Begins (cs ++ c ∷ []) (cs ++ c ∷ rest)
 begins [] c rest p e = begins_onto c rest e
@@ -49,7 +49,7 @@ begins (d ∷ cs) c rest p e =
     record {
       line = d ∷ more.line;
       others = more.others;
-      splits = ap (λ b. cond b ([] ∷ lines (cs ++ c ∷ rest)) (onto d (lines (cs ++ c ∷ rest)))) p.0 ∙ ap (onto d) more.splits;
+      splits = simp p.0 (ap (onto d) more.splits);
       long = omega (arith, more.long);
     }
 

@@ -3,10 +3,9 @@ use Rattle.std.proofs.Common.{◌≡◌, ℕ, zero, suc, ◌+◌, ◌*◌, ◌/�
 use Rattle.std.proofs.lemmas.List.FromFn.{fill_by_all}
 use Rattle.std.proofs.lemmas.List.Sums.{sum_by_push}
 use Rattle.std.proofs.lemmas.Bool.{and_parts}
+use Rattle.std.proofs.lemmas.Bool.Decides.{nat_tests}
 use Rattle.std.specs.List.{range_with_len}
 use Rattle.hexadecimal.specs.Text.{line_bytes, Spells}
-use Rattle.hexadecimal.specs.declared.text.TextFault.{TextFault}
-use Rattle.hexadecimal.specs.declared.text.TextFault.TheVariants.{NotHexadecimal}
 use Rattle.hexadecimal.proofs.Spelling.{line_spells, line_spelled}
 use Rattle.trace.specs.Frames.{two, order_byte, body, check_byte, frame_bytes, at, at2, at4, shaped, settings, order_of, setup_under, setup_of, formed, frame_of}
 use Rattle.trace.specs.Lines.{caused, given, line_frame, Accepts}
@@ -18,10 +17,6 @@ use Rattle.trace.specs.declared.frame.OrderKind.TheVariants.{FewestLive, CostBen
 use Rattle.trace.specs.declared.frame.Settings.{Settings}
 use Rattle.trace.specs.declared.frame.Frame.{Frame}
 use Rattle.trace.specs.declared.frame.Frame.TheVariants.{Setup, Write, Discard, Read}
-
--- an answer is not both a refusal and a frame
-pub refused_none : {A B : Type 0} {e : B} {x : A} → Err e ≡ Ok x → ⊥
-refused_none e = let z : ◌≡◌ {A = ℕ} 0 1 = cc in omega arith
 
 -- bytes with their check byte pass the check, and no other last byte does
 checked : (bs : List ℕ) → sum (bs ++ check_byte bs ∷ []) % 256 ≡ 0
@@ -61,12 +56,15 @@ order_back : (o : OrderKind) → order_of (order_byte o) ≡ Ok o
 order_back FewestLive = refl
 order_back CostBenefit = refl
 
+order_least : (b : ℕ) → order_of b ≡ Ok FewestLive → b ≡ 0
+order_least b e = grind (arith, nat_tests)
+
+order_other : (b : ℕ) → order_of b ≡ Ok CostBenefit → b ≡ 1
+order_other b e = grind (arith, nat_tests)
+
 order_only : (b : ℕ) (o : OrderKind) → order_of b ≡ Ok o → b ≡ order_byte o
-order_only b o e = go (eqb b 0) (eqb b 1) refl refl e where
-  go : (x y : Bool) → eqb b 0 ≡ x → eqb b 1 ≡ y → cond x (Ok FewestLive) (cond y (Ok CostBenefit) (Err WrongForm)) ≡ Ok o → b ≡ order_byte o
-  go true y p q r = let is : FewestLive ≡ o = cc in eqb-true b 0 p ∙ ap order_byte is
-  go false true p q r = let is : CostBenefit ≡ o = cc in eqb-true b 1 q ∙ ap order_byte is
-  go false false p q r = absurd (refused_none r)
+order_only b FewestLive e = order_least b e
+order_only b CostBenefit e = order_other b e
 
 pub read_back : (f : Frame) → frame_of (frame_bytes f) ≡ Ok f
 read_back (Write page fill) = rw (eq-eqb _ 0 (checked (body (Write page fill)))) (ap (λ n. Ok (Write n fill)) (two_back page))
@@ -137,7 +135,7 @@ module _ (bs : List ℕ) (small : (i : ℕ) → at bs i < 256) (sums : sum bs % 
   setup_form f e q = go (order_of (at bs 13)) refl q where
     go : (r : Result OrderKind FrameFault) → order_of (at bs 13) ≡ r → setup_under bs r ≡ Ok f → frame_bytes f ≡ bs
     go (Ok o) p r = let is : Setup (settings bs o) ≡ f = cc in subst (λ g. frame_bytes g ≡ bs) is (setup_only o (order_only (at bs 13) o p) e)
-    go (Err x) p r = absurd (refused_none r)
+    go (Err x) p r = cc
 
   by_form : (f : Frame) → formed bs ≡ Ok f → frame_bytes f ≡ bs
   by_form f q = go (shaped 1 17 bs) (shaped 2 5 bs) (shaped 3 4 bs) (shaped 4 4 bs) refl refl refl refl q where
@@ -146,13 +144,13 @@ module _ (bs : List ℕ) (small : (i : ℕ) → at bs i < 256) (sums : sum bs % 
     go false true y z a b c d r = let is : Write (at2 bs 1) (at bs 3) ≡ f = cc in subst (λ g. frame_bytes g ≡ bs) is (write_only b)
     go false false true z a b c d r = let is : Discard (at2 bs 1) ≡ f = cc in subst (λ g. frame_bytes g ≡ bs) is (page_only 3 (Discard (at2 bs 1)) refl c)
     go false false false true a b c d r = let is : Read (at2 bs 1) ≡ f = cc in subst (λ g. frame_bytes g ≡ bs) is (page_only 4 (Read (at2 bs 1)) refl d)
-    go false false false false a b c d r = absurd (refused_none r)
+    go false false false false a b c d r = cc
 
 pub only_from : (bs : List ℕ) (f : Frame) → ((i : ℕ) → at bs i < 256) → frame_of bs ≡ Ok f → frame_bytes f ≡ bs
 only_from bs f small e = go (eqb (sum bs % 256) 0) refl e where
   go : (t : Bool) → eqb (sum bs % 256) 0 ≡ t → cond t (formed bs) (Err WrongCheck) ≡ Ok f → frame_bytes f ≡ bs
   go true p q = by_form bs small (eqb-true _ 0 p) f q
-  go false p q = absurd (refused_none q)
+  go false p q = cc
 
 -- a line -----------------------------------------------------------------------------------------
 
@@ -172,12 +170,12 @@ frame_length (Read page) = (lit< tt, lit≤ tt)
 
 uncaused : (r : Result Frame FrameFault) (f : Frame) → caused r ≡ Ok f → r ≡ Ok f
 uncaused (Ok g) f e = let is : g ≡ f = cc in ap Ok is
-uncaused (Err x) f e = absurd (refused_none e)
+uncaused (Err x) f e = cc
 
 accepted_only : (ds : List ℕ) (f : Frame) → line_frame ds ≡ Ok f → Spells ds (frame_bytes f)
 accepted_only ds f e = go (line_bytes 17 ds) refl e where
   go : (o : Option (List ℕ)) → line_bytes 17 ds ≡ o → given o ≡ Ok f → Spells ds (frame_bytes f)
-  go None p q = absurd (refused_none q)
+  go None p q = cc
   go (Some bs) p q =
       let spelt = line_spells 17 ds bs p in
       subst (Spells ds) (sym (only_from bs f (bytes_small ds bs spelt) (uncaused (frame_of bs) f q))) spelt
@@ -193,10 +191,6 @@ accepts ds = record {
   always = accepted_always ds;
   one = λ f g s t. let is : ◌≡◌ {A = Result Frame Cause} (Ok f) (Ok g) = sym (accepted_always ds f s) ∙ accepted_always ds g t in let same : f ≡ g = cc in same;
 }
-
--- a text is refused in one way only
-pub one_way : (e : TextFault) → e ≡ NotHexadecimal
-one_way NotHexadecimal = refl
 
 -- an answer that is the line's is accepted or refused as it should be
 pub accepts_as : (ds : List ℕ) (r : Result Frame Cause) → r ≡ line_frame ds → Accepts ds r

@@ -7,5 +7,5 @@ pub returns : goal.returns
 returns c =
     fold_over fronts (λ y. y.now) _ (λ xs total. total ≡ sum xs % 256) _ (λ xs total x next f so_far call.
     let added : next ≡ (total + x.now) % 256 = search rules in
-    (omega (arith, sum_by_push (λ y. y) xs x.now), search rules)) c.iter.result _ 0 c.fold.result (slice_gives c.iter.result) refl c.fold.ensures.ran
+    (omega (arith, sum_by_push (λ y. y) xs x.now), search rules)) c.iter.result _ _ c.fold.result (slice_gives c.iter.result) refl c.fold.ensures.ran
     ∙ ap (λ xs. sum xs % 256) c.iter.ensures.rest
