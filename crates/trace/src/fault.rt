@@ -47,6 +47,7 @@ impl FrameFault {
 }
 
 impl Cause {
+    // A match and no discriminants, since each layer numbers its own refusals.
     /// The number of the refusal.
     pub fn number(self) -> u8
         ensures { result ≡ cause_number self }
