@@ -14,7 +14,7 @@ use std::io;
 use std::io::{BufWriter, Read, Write};
 use trace::fault::Fault;
 use trace::frame::Frame;
-use trace::reader::Reader;
+use trace::input::each_frame;
 
 /// A place for every page that a frame can name.
 const PAGES: usize = 65536;
@@ -22,42 +22,17 @@ const PAGES: usize = 65536;
 /// How many pages are told.
 const MOST: usize = 8;
 
-/// Counts the writes of the frames that end within a piece of the input.
-fn count_piece(
-    reader: &mut Reader,
-    piece: &[u8],
-    counts: &mut Heap<PageRecord, BusiestPage>,
-) -> Result<(), Fault> {
-    for byte in piece {
-        if let Some(Frame::Write { page, .. }) = reader.push(*byte)? {
-            count_write(counts, page);
-        }
-    }
-    Ok(())
-}
-
 /// Counts the writes of a whole input, and answers its fault, if it has one.
-fn count_all(
-    input: &mut impl Read,
+fn count<R: Read>(
+    input: &mut R,
     counts: &mut Heap<PageRecord, BusiestPage>,
 ) -> io::Result<Option<Fault>> {
-    let mut reader = Reader::new();
-    let mut piece = [0u8; 65536];
-    for _ in 0..u64::MAX {
-        let n = input.read(&mut piece)?;
-        if n == 0 {
-            break;
+    each_frame(input, |frame| {
+        if let Frame::Write { page, .. } = frame {
+            count_write(counts, page);
         }
-        if let Err(fault) = count_piece(&mut reader, &piece[0..n], counts) {
-            return Ok(Some(fault));
-        }
-    }
-    match reader.finish() {
-        Ok(Some(Frame::Write { page, .. })) => count_write(counts, page),
-        Ok(_) => {}
-        Err(fault) => return Ok(Some(fault)),
-    }
-    Ok(None)
+        Ok(())
+    })
 }
 
 /// Tells the busiest pages of standard input.
@@ -67,7 +42,7 @@ fn run(rt: &HostRuntime) -> io::Result<()> {
         writes: 0
     }); PAGES]?;
     let mut counts = Heap::new(nodes.as_mut_slice(), BusiestPage);
-    let fault = count_all(&mut rt.stdin(), &mut counts)?;
+    let fault = count(&mut rt.stdin(), &mut counts)?;
     let mut out = BufWriter::new(rt.alloc(), rt.stdout())?;
     if let Some(fault) = fault {
         out.write_all(fault_line(&fault).as_slice())?;

@@ -1,10 +1,10 @@
 -- What a reader answers on its way through an input, byte by byte, is what the input tells as a whole.
-use Rattle.std.proofs.Common.{◌≡◌, ℕ, ◌<◌, ◌≤◌, Bool, true, false, cond, eqb, ltb, List, [], ◌∷◌, ◌++◌, length, Some, None, Ok, Err, Option, Result, sym, refl, ap, ◌∙◌, append_assoc, append-nil, arith, length-append, ltb-false, ne_eqb, eqb-true}
+use Rattle.std.proofs.Common.{◌≡◌, ℕ, ◌<◌, ◌≤◌, Bool, true, false, cond, eqb, ltb, List, [], ◌∷◌, ◌++◌, length, Some, None, Ok, Err, Option, Result, sym, refl, ap, ◌∙◌, append_assoc, append-nil, arith, length-append, ltb-false, ne_eqb, eqb-true, rules}
 use Rattle.hexadecimal.specs.declared.text.TextFault.TheVariants.{NotHexadecimal}
 use Rattle.hexadecimal.proofs.Decodes.{too_long}
 use Rattle.trace.specs.Lines.{given, line_frame}
 use Rattle.trace.specs.Reading.{Reading, onto, lines, placed, next_line, faulty, told_first, told, read_all}
-use Rattle.trace.specs.Steps.{State, Step, beginning, stopped, settled, line_end, kept, unless, byte_step, end_step, ending, after_all, news, heard, concluded}
+use Rattle.trace.specs.Steps.{State, Step, beginning, stopped, settled, line_end, kept, unless, byte_step, step, end_step, ending, after_all, news, heard, fault_in, concluded}
 use Rattle.trace.specs.declared.fault.Cause.{Cause}
 use Rattle.trace.specs.declared.fault.Cause.TheVariants as cause
 use Rattle.trace.specs.declared.fault.FrameFault.TheVariants.{WrongPlace}
@@ -58,19 +58,39 @@ overlong : (l : List ℕ) → 34 < length l → line_frame l ≡ Err (cause.Text
 overlong l h = ap given (too_long 17 l (omega arith))
 
 -- what is told from a state on, and from a step on
-abbrev going : State → List ℕ → Reading
+abbrev pub going : State → List ℕ → Reading
 going s bs = concluded (heard s bs) (ending (after_all s bs))
 
-abbrev going_on : Step → List ℕ → Reading
+abbrev pub going_on : Step → List ℕ → Reading
 going_on st bs = concluded (news st.answer ++ heard st.after bs) (ending (after_all st.after bs))
 
 -- once stopped, it answers the fault
-stays : (s : State) (e : Fault) (bs : List ℕ) → s.fault ≡ Some e → going s bs ≡ record { frames = []; fault = Some e }
+pub stays : (s : State) (e : Fault) (bs : List ℕ) → s.fault ≡ Some e → going s bs ≡ record { frames = []; fault = Some e }
 stays s e [] f = ap (λ o. concluded [] (unless o s (end_step s)).answer) f
 stays s e (b ∷ bs) f = ap (λ o. going_on (unless o s (byte_step s b)) bs) f ∙ stays s e bs f
 
 stopped_tells : (s : State) (e : Fault) (bs : List ℕ) → going_on (stopped s e) bs ≡ record { frames = []; fault = Some e }
 stopped_tells s e bs = stays (stopped s e).after e bs refl
+
+-- a fault that is answered stops the reading
+err_settled : (s : State) (r : Result Frame Cause) (e : Fault) → (settled s r).answer ≡ Err e → (settled s r).after.fault ≡ Some e
+err_settled s (Ok f) e a = search rules
+err_settled s (Err c) e a = ap fault_in a
+
+err_kept : (s : State) (b : ℕ) (t : Bool) (e : Fault) → (cond t (record { after = record { line = s.line; started = s.started; rest = s.rest ++ b ∷ []; fault = s.fault }; answer = Ok None }) (stopped s (faulty (cause.Text NotHexadecimal) s.line))).answer ≡ Err e → (cond t (record { after = record { line = s.line; started = s.started; rest = s.rest ++ b ∷ []; fault = s.fault }; answer = Ok None }) (stopped s (faulty (cause.Text NotHexadecimal) s.line))).after.fault ≡ Some e
+err_kept s b true e a = search rules
+err_kept s b false e a = ap fault_in a
+
+err_byte : (s : State) (b : ℕ) (t : Bool) (e : Fault) → (cond t (line_end s) (kept s b)).answer ≡ Err e → (cond t (line_end s) (kept s b)).after.fault ≡ Some e
+err_byte s b true e a = err_settled s (placed s.started (line_frame s.rest)) e a
+err_byte s b false e a = err_kept s b (ltb (length s.rest) 34) e a
+
+err_unless : (o : Option Fault) (s : State) (b : ℕ) (e : Fault) → s.fault ≡ o → (unless o s (byte_step s b)).answer ≡ Err e → (unless o s (byte_step s b)).after.fault ≡ Some e
+err_unless None s b e f a = err_byte s b (eqb b 10) e a
+err_unless (Some d) s b e f a = f ∙ ap fault_in a
+
+pub err_stops : (s : State) (b : ℕ) (e : Fault) → (step s b).answer ≡ Err e → (step s b).after.fault ≡ Some e
+err_stops s b e a = err_unless s.fault s b e refl a
 
 -- a reader that no fault has stopped
 abbrev running : ℕ → Bool → List ℕ → State

@@ -4,5 +4,6 @@
 
 pub mod fault;
 pub mod frame;
+pub mod input;
 pub mod line;
 pub mod reader;
