@@ -27,12 +27,15 @@ fn count<R: Read>(
     input: &mut R,
     counts: &mut Heap<PageRecord, BusiestPage>,
 ) -> io::Result<Option<Fault>> {
-    each_frame(input, |frame| {
-        if let Frame::Write { page, .. } = frame {
-            count_write(counts, page);
-        }
-        Ok(())
-    })
+    each_frame(
+        input,
+        &mut |frame| {
+            if let Frame::Write { page, .. } = frame {
+                count_write(counts, page);
+            }
+            Ok(())
+        },
+    )
 }
 
 /// Tells the busiest pages of standard input.

@@ -9,7 +9,11 @@ use trace::input::each_frame;
 
 /// Lists a whole input. Where it cannot be read on, what was read before is listed first.
 fn list<R: Read, W: Write>(input: &mut R, out: &mut W) -> io::Result<()> {
-    match each_frame(input, |frame| out.write_all(frame_line(&frame).as_slice()))? {
+    let fault = each_frame(
+        input,
+        &mut |frame| { out.write_all(frame_line(&frame).as_slice()) },
+    )?;
+    match fault {
         Some(fault) => out.write_all(fault_line(&fault).as_slice()),
         None => Ok(()),
     }

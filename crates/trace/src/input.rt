@@ -57,20 +57,20 @@ fn last_frame<F: FnMut(Frame) -> io::Result<()>>(
 /// Reads a whole input and calls `on_frame` with each of its frames, in order. The answer is the fault that ends them, if one does.
 pub fn each_frame<R: Read, F: FnMut(Frame) -> io::Result<()>>(
     input: &mut R,
-    mut on_frame: F,
+    on_frame: &mut F,
 ) -> io::Result<Option<Fault>>
-    requires { F.IsAlwaysCallable on_frame }
+    requires { F.IsAlwaysCallable on_frame.old }
     ensures fault { IfOk result (λ fault. IfSome (R.remaining input.old) (λ bytes. fault ≡ (read_all bytes).fault)) }
-    ensures frames { OnOk result (IfSome (R.remaining input.old) (λ bytes. (last : F) × FoldsTo (λ p x q. F.step p x (Ok tt) q) on_frame (read_all bytes).frames last)) }
+    ensures frames { OnOk result (IfSome (R.remaining input.old) (λ bytes. FoldsTo (λ p x q. F.step p x (Ok tt) q) on_frame.old (read_all bytes).frames on_frame.new)) }
 {
     let mut reader = Reader::new();
     let mut piece = [0u8; PIECE];
     for _ in 0..u64::MAX {
         let n = input.read(&mut piece)?;
         if n == 0 {
-            return last_frame(reader, &mut on_frame);
+            return last_frame(reader, on_frame);
         }
-        if let Some(fault) = each_frame_within(&mut reader, &piece[..n], &mut on_frame)? {
+        if let Some(fault) = each_frame_within(&mut reader, &piece[..n], on_frame)? {
             return Ok(Some(fault));
         }
     }
