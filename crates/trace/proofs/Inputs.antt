@@ -1,7 +1,7 @@
 -- What is left to tell of an input, from piece to piece, and the calls that are still to come.
-use Rattle.std.proofs.Common.{◌≡◌, ℕ, suc, ◌<◌, List, [], ◌∷◌, ◌++◌, length, get_or, take, drop, Some, None, Ok, Err, Option, Result, IfSome, sym, refl, ap, ◌∙◌, subst, append_assoc, append-nil, rules}
+use Rattle.std.proofs.Common.{◌≡◌, ℕ, suc, ◌<◌, List, [], ◌∷◌, ◌++◌, length, get_or, take, drop, Some, None, Err, Option, Result, IfSome, sym, refl, ap, ◌∙◌, subst, append_assoc, append-nil, rules}
 use Rattle.std.proofs.Math.Seq.{drop-cons}
-use Rattle.std.proofs.lemmas.List.{take_more, take-append-drop}
+use Rattle.std.proofs.lemmas.List.{take-append-drop}
 use Rattle.std.specs.List.{FoldsTo}
 use Rattle.std.specs.Io.KnownBytes.{Consumes, IsAtEnd}
 use Rattle.trace.specs.Steps.{State, beginning, unless, byte_step, step, ending, after_all, news, heard, fault_in, concluded}

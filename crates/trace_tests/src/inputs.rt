@@ -1,6 +1,10 @@
 //! Whole inputs: how many frames they tell, and which fault ends them.
 use hexadecimal::text::TextFault;
+use std::io;
+use std::test::Fail;
 use trace::fault::{Cause, Fault, FrameFault};
+use trace::frame::Frame;
+use trace::input::each_frame;
 use trace::reader::Reader;
 
 const NOT_HEX: Cause = Cause::Text(TextFault::NotHexadecimal);
@@ -115,4 +119,54 @@ fn long_line(rt: HostRuntime) {
     assert_eq!(rt; reader.push(b'0'), Err(fault), "the 35th character");
     assert_eq!(rt; reader.push(b'\n'), Err(fault), "nothing more is read");
     assert_eq!(rt; reader.finish(), Err(fault));
+}
+
+#[test]
+fn each_frame_in_order(rt: HostRuntime) -> Result<(), Fail> {
+    let mut input: &[u8] = b"010004020001000000640000020000048E\n02000041BD\n031234B7\n\n04ABCD84";
+    let mut frames = 0u32;
+    let mut last = None;
+    let fault = each_frame(
+        &mut input,
+        &mut |frame| {
+            frames = frames.saturating_add(1);
+            last = Some(frame);
+            Ok(())
+        },
+    )?;
+    assert_eq!(rt; fault, at(NOT_HEX, 4));
+    assert_eq!(rt; frames, 3, "none after the fault");
+    assert_eq!(rt; last, Some(Frame::Discard { page: 0x1234 }));
+    Ok(())
+}
+
+#[test]
+fn each_frame_with_the_last(rt: HostRuntime) -> Result<(), Fail> {
+    let mut input: &[u8] = b"010004020001000000640000020000048E\n02000041BD";
+    let mut frames = 0u32;
+    let fault = each_frame(
+        &mut input,
+        &mut |_| {
+            frames = frames.saturating_add(1);
+            Ok(())
+        },
+    )?;
+    assert_eq!(rt; fault, None);
+    assert_eq!(rt; frames, 2, "the last line lacks its line feed");
+    Ok(())
+}
+
+#[test]
+fn each_frame_until_an_error(rt: HostRuntime) {
+    let mut input: &[u8] = b"010004020001000000640000020000048E\n02000041BD\n0\n";
+    let mut frames = 0u32;
+    let ended = each_frame(
+        &mut input,
+        &mut |_| {
+            frames = frames.saturating_add(1);
+            Err(io::Error::other("no more"))
+        },
+    );
+    assert!(rt; ended.is_err());
+    assert_eq!(rt; frames, 1);
 }
