@@ -2,11 +2,10 @@
 use Rattle.std.proofs.Common.{◌≡◌, ℕ, ◌+◌, ◌<◌, ◌≢◌, List, [], ◌∷◌, ◌++◌, length, get_or, take, Ok, sym, refl, ap, ◌∙◌, inl, inr, arith, length-append, length-set, length-take, get_or-set_other, get_or-set_same}
 use Rattle.std.proofs.lemmas.List.{take_more, map-append, nil_from_length}
 use Rattle.std.proofs.lemmas.Bool.{cases_lt}
-use Rattle.flash.specs.declared.Refusal.TheVariants.{Outside, OutOfTurn, WrongLength, WornOut}
+use Rattle.std.proofs.lemmas.Bool.Decides.{nat_tests}
 use Rattle.flash.specs.Meaning.{Flash, Page, Block, WellFormed, program, block, page, no_page, no_block, programmed, applies}
 use Rattle.flash.specs.Calls.{erase_answer}
 use Rattle.flash.specs.Tools.{copy_answer, copies, relocation, last_read}
-use Rattle.flash.proofs.Tests.{below_passes, equal_passes}
 
 -- a row of copies leaves N, P, D and E
 pub record Alike (f h : Flash) : Type 0 where
@@ -86,12 +85,8 @@ module _ (f : Flash) (formed : WellFormed f) (b to n k : ℕ) (m : Movable f b t
       let from : b < length h.blocks = omega (arith, a.n, m.from) in
       let within : i < h.p = omega (arith, a.p) in
       let there : i < length (block h b).pages = omega arith in
-      below_passes to (length h.blocks) Outside _ into
-      ∙ below_passes (length (block h to).pages) h.p Outside _ more
-      ∙ below_passes b (length h.blocks) Outside _ from
-      ∙ below_passes i h.p Outside _ within
-      ∙ below_passes i (length (block h b).pages) OutOfTurn _ there
-      ∙ equal_passes n h.d WrongLength (Ok tt) (m.sized ∙ sym a.d)
+      let sized : n ≡ h.d = m.sized ∙ sym a.d in
+      grind (arith, nat_tests)
 
   -- what is copied is the page as it was at the start
   pub page_stays : (i : ℕ) → page (applies (copies to (take i (block f b).pages)) f) b i ≡ page f b i
@@ -106,4 +101,4 @@ module _ (f : Flash) (formed : WellFormed f) (b to n k : ℕ) (m : Movable f b t
       let s = ap (λ (x : Block). x.count) (stays i) in
       let from : b < length h.blocks = omega (arith, a.n, m.from) in
       let young : (block h b).count < h.e = omega (arith, a.e, m.young) in
-      below_passes b (length h.blocks) Outside _ from ∙ below_passes (block h b).count h.e WornOut (Ok tt) young
+      grind (arith, nat_tests)

@@ -1,5 +1,5 @@
--- The number of each refusal of a chip.
-use Rattle.std.specs.Prelude.{ℕ}
+-- The number of each refusal of a chip, and its words.
+use Rattle.std.specs.Prelude.{ℕ, List, codes}
 use Rattle.flash.specs.declared.Refusal.{Refusal}
 use Rattle.flash.specs.declared.Refusal.TheVariants.{Outside, OutOfTurn, WrongLength, WornOut}
 
@@ -12,3 +12,10 @@ number_of Outside = 12
 number_of OutOfTurn = 13
 number_of WrongLength = 14
 number_of WornOut = 15
+
+-- What is printed of a refusal.
+abbrev pub words_of : Refusal → List ℕ
+words_of Outside = codes "no such block or page"
+words_of OutOfTurn = codes "a page out of turn or unwritten"
+words_of WrongLength = codes "not as long as a page"
+words_of WornOut = codes "the block is worn out"

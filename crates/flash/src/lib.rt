@@ -5,11 +5,14 @@
 
 #![tactic(auto)]
 
-ghost use Rattle.std.specs.Prelude.{◌≡◌, List, [], ◌∷◌, length, MatchResult};
+ghost use Rattle.std.specs.Prelude.{◌≡◌, List, [], ◌∷◌, length, Some, MatchResult};
 ghost use Rattle.flash.specs.Limits.{within};
-ghost use Rattle.flash.specs.Refusals.{number_of};
+ghost use Rattle.flash.specs.Refusals.{number_of, words_of};
 ghost use Rattle.flash.specs.Meaning.{Flash, Op, program as programs, erase as erases, page_of, geometry_of, no_geometry, Lawful};
 ghost use Rattle.flash.specs.Calls.{count_answer, written_answer, tag_answer, read_answer, read_buffer, program_answer, program_chip, erase_answer, erase_chip};
+
+use std::error::Error;
+use std::fmt;
 
 pub mod tools;
 
@@ -25,7 +28,7 @@ pub const MAX_SIZE: usize = 512;
 pub const MAX_RATED: u32 = 1_000_000;
 
 /// The four numbers of a chip: N blocks of P pages of D bytes, each block rated for E erases.
-#[derive(Clone, Copy, PartialEq, Eq, Debug)]
+#[derive(Clone, Copy, PartialEq, Eq, Debug, Default)]
 pub struct Geometry {
     pub blocks: u16,
     pub pages: u32,
@@ -34,30 +37,21 @@ pub struct Geometry {
 }
 
 impl Geometry {
-    /// The geometry of a chip that is not there.
+    /// The geometry of a chip that is not there: not an `Option`, since N, P, D and E of such a chip are all 0.
     pub fn none() -> Geometry
         ensures { result ≡ no_geometry }
     {
-        Geometry {
-            blocks: 0,
-            pages: 0,
-            size: 0,
-            rated: 0,
-        }
+        Geometry::default()
     }
 
     /// Whether all four numbers lie within the limits above.
     pub fn within_limits(&self) -> bool
         ensures { result ≡ within self.now }
     {
-        MIN_BLOCKS <= self.blocks
-            && self.blocks <= MAX_BLOCKS
-            && 1 <= self.pages
-            && self.pages <= MAX_PAGES
-            && 1 <= self.size
-            && self.size <= MAX_SIZE
-            && 1 <= self.rated
-            && self.rated <= MAX_RATED
+        (MIN_BLOCKS..=MAX_BLOCKS).contains(&self.blocks)
+            && (1..=MAX_PAGES).contains(&self.pages)
+            && (1..=MAX_SIZE).contains(&self.size)
+            && (1..=MAX_RATED).contains(&self.rated)
     }
 }
 
@@ -65,13 +59,13 @@ impl Geometry {
 #[derive(Clone, Copy, PartialEq, Eq, Debug)]
 pub enum Refusal {
     /// The block is not below N, or the page not below P.
-    Outside,
+    Outside = 12,
     /// A page programmed out of turn, or an unwritten page read or asked for its tag.
-    OutOfTurn,
+    OutOfTurn = 13,
     /// Bytes or a buffer that are not D long.
-    WrongLength,
+    WrongLength = 14,
     /// An erase of a block whose count is E.
-    WornOut,
+    WornOut = 15,
 }
 
 impl Refusal {
@@ -79,14 +73,24 @@ impl Refusal {
     pub fn number(self) -> u8
         ensures { result ≡ number_of self }
     {
+        self as u8
+    }
+}
+
+impl fmt::Display for Refusal {
+    ghost output = { λ refusal. Some (words_of refusal) };
+
+    fn fmt<W: fmt::Write>(&self, f: &mut fmt::Formatter<W>) -> fmt::Result {
         match self {
-            Refusal::Outside => 12,
-            Refusal::OutOfTurn => 13,
-            Refusal::WrongLength => 14,
-            Refusal::WornOut => 15,
+            Refusal::Outside => f.write_str("no such block or page"),
+            Refusal::OutOfTurn => f.write_str("a page out of turn or unwritten"),
+            Refusal::WrongLength => f.write_str("not as long as a page"),
+            Refusal::WornOut => f.write_str("the block is worn out"),
         }
     }
 }
+
+impl Error for Refusal {}
 
 /// A flash chip. Refusals are tried in rising number.
 pub trait Chip {
@@ -139,6 +143,7 @@ pub trait Chip {
     fn written(&self, block: u16) -> Result<u32, Refusal>
         ensures { result ≡ written_answer (meaning self.now) block };
 
+    // Block and page are two arguments, as a block goes alone in as many calls, and without its page in a copy.
     /// The tag of a written page.
     fn tag(&self, block: u16, page: u32) -> Result<u16, Refusal>
         ensures { result ≡ tag_answer (meaning self.now) block page };
