@@ -1,31 +1,18 @@
--- The chip of a geometry and tables, line by line. Assumes nothing.
-use Rattle.std.proofs.Common.{◌≡◌, ℕ, ◌<◌, ◌≤◌, min, ◌≢◌, List, map, length, get_or, set, replicate, sym, ap, ◌∙◌, inl, inr, arith, length-set, get_or-set_other, get_or-set_same}
+-- The chip of tables, line by line. Assumes nothing.
+use Rattle.std.proofs.Common.{◌≡◌, ℕ, ◌<◌, ◌≤◌, ◌≢◌, List, map, length, get_or, set, replicate, Ok, Err, Result, sym, ap, ◌∙◌, inl, inr, arith, length-set, get_or-set_other, get_or-set_same}
 use lib.ListN.{length-replicate, get_or-replicate}
 use Rattle.std.specs.List.{range_with_len}
 use Rattle.std.proofs.lemmas.List.FromFn.{length-map-range_with_len, get_or-map-range_with_len, fill_by_all}
 use Rattle.std.proofs.lemmas.Bool.{cases_eq}
+use Rattle.std.proofs.lemmas.Bool.Decides.{nat_tests}
+use Rattle.flash.specs.declared.Refusal.{Refusal}
+use Rattle.flash.specs.declared.Refusal.TheVariants.{Outside}
 use Rattle.flash.specs.declared.Geometry.{Geometry}
-use Rattle.flash.specs.Meaning.{Flash, Block, blank, no_block}
-use Rattle.emulated.specs.declared.Emulated.{Emulated}
-use Rattle.emulated.specs.Held.{served, held, block_at, page_at}
-use Rattle.emulated.specs.Meaning.{emulated}
-
--- the chip that s stands for at a geometry, and its block b
-abbrev pub view : Geometry → Emulated → Flash
-view g s = held g s.counts s.written s.tags.now s.bytes.now
-
-abbrev pub line : Geometry → Emulated → ℕ → Block
-line g s b = block_at g.pages g.size g.rated s.counts s.written s.tags.now s.bytes.now b
-
--- what s stands for, by what its fields are
-pub emulated_by : (s : Emulated) (g : Geometry) (counts written tags bytes : List ℕ) → s.geometry ≡ g → s.counts ≡ counts → s.written ≡ written → s.tags.now ≡ tags → s.bytes.now ≡ bytes
-    → emulated s ≡ held (served g (length tags) (length bytes)) counts written tags bytes
-emulated_by s g counts written tags bytes p q r t u =
-    ap (λ x. held (served x (length s.tags.now) (length s.bytes.now)) s.counts s.written s.tags.now s.bytes.now) p
-    ∙ ap (λ x. held (served g (length s.tags.now) (length s.bytes.now)) x s.written s.tags.now s.bytes.now) q
-    ∙ ap (λ x. held (served g (length s.tags.now) (length s.bytes.now)) counts x s.tags.now s.bytes.now) r
-    ∙ ap (λ x. held (served g (length x) (length s.bytes.now)) counts written x s.bytes.now) t
-    ∙ ap (λ x. held (served g (length tags) (length x)) counts written tags x) u
+use Rattle.flash.specs.Meaning.{Flash, Block, geometry_of, blank, no_block, no_page, block, page}
+use Rattle.flash.specs.Calls.{in_block, in_page}
+use Rattle.emulated.specs.declared.Line.{Line}
+use Rattle.emulated.specs.Held.{held, block_at, page_at, line, no_line, line_of, page_in, place}
+use Rattle.emulated.specs.Laws.{blocks_are, block_is, written_are, page_is}
 
 -- two functions that agree below m make the same list
 pub map_same : {X : Type 0} (f g : ℕ → X) (m : ℕ) (d : X) → ((j : ℕ) → j < m → f j ≡ g j) → map f (range_with_len 0 m) ≡ map g (range_with_len 0 m)
@@ -41,20 +28,36 @@ counted_set f g n b x d lt here there =
       | inr ne ↦ get_or-set_other (map f (range_with_len 0 n)) b k x d ne ∙ get_or-map-range_with_len f 0 n k k d h (omega arith) ∙ sym (there k ne)
     ]))
 
-least : (a b : ℕ) → a ≡ 0 → min a b ≡ 0
-least a b z = omega arith
-
--- tables of zeros hold a blank chip
-pub held_blank : (g : Geometry) (tags bytes : List ℕ) → g.blocks ≤ 256 → held g (replicate 256 0) (replicate 256 0) tags bytes ≡ blank g
+-- tables of blank lines hold a blank chip
+pub held_blank : (g : Geometry) (tags bytes : List ℕ) → g.blocks ≤ 256 → held g (replicate 256 no_line) tags bytes ≡ blank g
 held_blank g tags bytes few =
-    let p = g.pages in let d = g.size in let e = g.rated in let n = g.blocks in
-    let f = block_at p d e (replicate 256 0) (replicate 256 0) tags bytes in
-    ap (λ (bs : List Block). record { p = p; d = d; e = e; blocks = bs })
-    (sym (fill_by_all f (replicate n no_block) n no_block (length-replicate n no_block)
+    ap (λ (bs : List Block). record { p = g.pages; d = g.size; e = g.rated; blocks = bs })
+    (sym (fill_by_all (block_at g (replicate 256 no_line) tags bytes) (replicate g.blocks no_block) g.blocks no_block (length-replicate g.blocks no_block)
     (λ k h.
-    let zero : get_or (replicate 256 0) k 0 ≡ 0 = get_or-replicate 256 k 0 0 (omega arith) in
-    let none : min (get_or (replicate 256 0) k 0) e ≡ 0 = least _ e zero in
-    let empty : min (get_or (replicate 256 0) k 0) p ≡ 0 = least _ p zero in
-    get_or-replicate n k no_block no_block h
-    ∙ sym (ap (λ j. record { count = j; pages = map (page_at p d tags bytes k) (range_with_len 0 (min (get_or (replicate 256 0) k 0) p)) }) none
-    ∙ ap (λ j. record { count = 0; pages = map (page_at p d tags bytes k) (range_with_len 0 j) }) empty))))
+    let blank_line : line (replicate 256 no_line) k ≡ no_line = get_or-replicate 256 k no_line no_line (omega arith) in
+    get_or-replicate g.blocks k no_block no_block h
+    ∙ sym (ap (λ (l : Line). record { count = l.erases; pages = map (page_at g tags bytes k) (range_with_len 0 l.written) }) blank_line))))
+
+pub geometry_is : (g : Geometry) (lines : List Line) (tags bytes : List ℕ) → g ≡ geometry_of (held g lines tags bytes)
+geometry_is g lines tags bytes = sym (ap (λ n. record { blocks = n; pages = g.pages; size = g.size; rated = g.rated }) (blocks_are g lines tags bytes))
+
+-- what is answered of a block, or of a page, that is not refused
+pub block_ok : {T : Type 0} (f : Flash) (b : ℕ) (x y : T) → Ok x ≡ in_block f b (Ok y) → x ≡ y
+block_ok f b x y q = grind (arith, nat_tests)
+
+pub page_ok : {T : Type 0} (f : Flash) (b i : ℕ) (x y : T) → Ok x ≡ in_page f b i (Ok y) → x ≡ y
+page_ok f b i x y q = grind (arith, nat_tests)
+
+module _ (g : Geometry) (lines : List Line) (tags bytes : List ℕ) (b : ℕ) where
+  -- the line of a block is what the held block has
+  pub line_is : b < g.blocks → line lines b ≡ line_of (block (held g lines tags bytes) b)
+  line_is h = sym (ap line_of (block_is g lines tags bytes b h) ∙ ap (λ w. record { erases = (line lines b).erases; written = w }) (written_are g lines tags bytes b))
+
+  pub in_is : {T : Type 0} (x y : T) → b < g.blocks → x ≡ y → Ok x ≡ in_block (held g lines tags bytes) b (Ok y)
+  in_is x y h q = let n = blocks_are g lines tags bytes in grind (arith, nat_tests)
+
+  pub out_is : {T : Type 0} (r : Result T Refusal) → g.blocks ≤ b → Err Outside ≡ in_block (held g lines tags bytes) b r
+  out_is r h = let n = blocks_are g lines tags bytes in grind (arith, nat_tests)
+
+  pub page_found : (i : ℕ) → b < g.blocks → i < (line lines b).written → page (held g lines tags bytes) b i ≡ page_in g.size tags bytes (place g.pages b i)
+  page_found i h w = ap (λ (x : Block). get_or x.pages i no_page) (block_is g lines tags bytes b h) ∙ page_is g lines tags bytes b i w

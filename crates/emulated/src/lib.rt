@@ -2,104 +2,122 @@
 
 #![tactic(auto)]
 
-ghost use Rattle.std.specs.Prelude.{◌≡◌, ◌+◌, ◌-◌, ◌*◌, ◌%◌, ◌^◌, ◌<◌, ◌≤◌, min, length, take, drop, Ok, slice_index, slice_set};
+ghost use Rattle.std.specs.Prelude.{◌≡◌, ◌+◌, ◌*◌, ◌<◌, ◌≤◌, length, Ok, IfOk, OnOk};
+ghost use Rattle.std.specs.List.{All};
 ghost use Rattle.std.proofs.Math.Seq.{paste};
-ghost use Rattle.flash.specs.declared.Refusal.TheVariants.{WrongLength};
-ghost use Rattle.flash.specs.Meaning.{ByMeaning, blank};
-ghost use Rattle.flash.specs.Calls.{equal, after};
-ghost use Rattle.emulated.specs.Held.{served};
-ghost use Rattle.emulated.specs.Meaning.{emulated, emulated_laws};
+ghost use Rattle.flash.specs.declared.Refusal.TheVariants.{OutOfTurn};
+ghost use Rattle.flash.specs.Meaning.{ByMeaning, blank, block as held_block, page as held_page};
+ghost use Rattle.flash.specs.Calls.{below, in_block, in_page};
+ghost use Rattle.emulated.specs.Held.{served, place, page_in, line_of, LineFits};
 
 use flash::{Chip, Geometry, MAX_BLOCKS, Refusal};
 
 /// A line of the tables for each block that a chip may have.
 const LINES: usize = MAX_BLOCKS as usize;
 
-/// A chip in N × P × D bytes and N × P tags.
+/// How often a block was erased, and how many of its pages are written.
+#[derive(Clone, Copy)]
+struct Line {
+    erases: u32,
+    written: u32,
+}
+
+/// The line of a blank block that was never erased.
+const BLANK: Line = Line {
+    erases: 0,
+    written: 0,
+};
+
+/// A chip in N × P × D bytes and N × P tags. What its maker measures holds as long as the chip does.
 #[derive(Drop)]
 pub struct Emulated<'a> {
     geometry: Geometry,
-    counts: [u32; LINES],
-    written: [u32; LINES],
+    lines: [Line; LINES],
     tags: &'a mut [u16],
     bytes: &'a mut [u8],
+    ghost few: { geometry.blocks ≤ 256 },
+    ghost tag_room: { geometry.blocks * geometry.pages ≤ length tags.now },
+    ghost byte_room: { (geometry.blocks * geometry.pages) * geometry.size ≤ length bytes.now },
+    ghost lines_fit: { All (LineFits geometry) lines },
+    ghost tags_fit: { All (λ tag. tag < 65536) tags.now },
 }
 
 impl<'a> Emulated<'a> {
+    // Not above, as the struct's ghost fields would then rest on a definition over the struct.
+    ghost use Rattle.emulated.specs.Meaning.{emulated};
+
     /// A blank chip, every count 0. Its N, P, D and E are all 0 where the geometry is outside the limits or the
     /// memory is too short.
     pub fn new(geometry: Geometry, tags: &'a mut [u16], bytes: &'a mut [u8]) -> Emulated<'a>
         ensures { emulated result ≡ blank (served geometry (length tags.old) (length bytes.old)) }
     {
         Emulated {
-            geometry,
-            counts: [0; LINES],
-            written: [0; LINES],
+            geometry: served(geometry, tags, bytes),
+            lines: [BLANK; LINES],
             tags,
             bytes,
         }
     }
 
-    /// N, P, D and E. The lent memory is measured at each call, since a struct that lends it can hold no proof that it suffices.
-    fn served(&self) -> Geometry
-        ensures { result ≡ served self.now.geometry (length self.now.tags.now) (length self.now.bytes.now) }
+    /// The line of a block.
+    fn line(&self, block: u16) -> Result<Line, Refusal>
+        ensures answer { result ≡ in_block (emulated self.now) block (Ok (line_of (held_block (emulated self.now) block))) }
+        ensures inside { OnOk result (block < self.now.geometry.blocks) }
     {
-        let geometry = self.geometry;
-        if !geometry.within_limits() {
-            return Geometry::none();
-        }
-        let places = geometry.blocks as usize * geometry.pages as usize;
-        if places <= self.tags.len() && places * geometry.size <= self.bytes.len() {
-            geometry
+        if block < self.geometry.blocks {
+            Ok(self.lines[usize::from(block)])
         } else {
-            Geometry::none()
+            Err(Refusal::Outside)
         }
     }
 
-    /// How often a block was erased, at most E.
-    fn erases(&self, block: u16, rated: u32) -> u32
-        requires { block < 256 }
-        ensures { result ≡ min (slice_index self.now.counts block) rated }
+    /// The line of a block, and the place of one of its pages in the memory.
+    fn locate(&self, block: u16, page: u32) -> Result<(Line, usize), Refusal>
+        ensures answer { result ≡ in_page (emulated self.now) block page (Ok (line_of (held_block (emulated self.now) block), place self.now.geometry.pages block page)) }
+        ensures inside { OnOk result ((block < self.now.geometry.blocks) × (page < self.now.geometry.pages)) }
+        ensures tag { IfOk result (λ found. found.1 < length self.now.tags.now) }
+        ensures bytes { IfOk result (λ found. found.1 * self.now.geometry.size + self.now.geometry.size ≤ length self.now.bytes.now) }
     {
-        self.counts[block as usize].min(rated)
+        let line = self.line(block)?;
+        if page >= self.geometry.pages {
+            return Err(Refusal::Outside);
+        }
+        let place = usize::from(block) * self.geometry.pages as usize + page as usize;
+        Ok((line, place))
     }
 
-    /// How many pages of a block are written, at most P.
-    fn filled(&self, block: u16, pages: u32) -> u32
-        requires { block < 256 }
-        ensures { result ≡ min (slice_index self.now.written block) pages }
+    /// The place of a written page.
+    fn written_place(&self, block: u16, page: u32) -> Result<usize, Refusal>
+        ensures answer { result ≡ in_page (emulated self.now) block page (below page (length (held_block (emulated self.now) block).pages) OutOfTurn (Ok (place self.now.geometry.pages block page))) }
+        ensures page { IfOk result (λ at. held_page (emulated self.now) block page ≡ page_in self.now.geometry.size self.now.tags.now self.now.bytes.now at) }
+        ensures tag { IfOk result (λ at. at < length self.now.tags.now) }
+        ensures bytes { IfOk result (λ at. at * self.now.geometry.size + self.now.geometry.size ≤ length self.now.bytes.now) }
     {
-        self.written[block as usize].min(pages)
+        let (line, place) = self.locate(block, page)?;
+        if page < line.written {
+            Ok(place)
+        } else {
+            Err(Refusal::OutOfTurn)
+        }
     }
+}
 
-    /// Writes a page's tag and bytes at its place, and counts it.
-    fn put(&mut self, block: u16, place: usize, tag: u16, bytes: &[u8], written: u32)
-        requires block { block < 256 }
-        requires tag { place < length self.old.tags.now }
-        requires bytes { place * length bytes.now + length bytes.now ≤ length self.old.bytes.now }
-        ensures geometry { self.new.geometry ≡ self.old.geometry }
-        ensures counts { self.new.counts ≡ self.old.counts }
-        ensures written { self.new.written ≡ slice_set self.old.written block written }
-        ensures tags { self.new.tags.now ≡ slice_set self.old.tags.now place tag }
-        ensures bytes { self.new.bytes.now ≡ paste self.old.bytes.now (place * length bytes.now) bytes.now (length bytes.now) }
-    {
-        self.tags[place] = tag;
-        store(self.bytes, place * bytes.len(), bytes);
-        self.written[block as usize] = written;
+/// The geometry handed in, or all 0 where it is outside the limits or the memory is too short.
+fn served(geometry: Geometry, tags: &[u16], bytes: &[u8]) -> Geometry
+    ensures is { result ≡ served geometry (length tags.now) (length bytes.now) }
+    ensures few { result.blocks ≤ 256 }
+    ensures tags_fit { All (λ tag. tag < 65536) tags.now }
+    ensures tag_room { result.blocks * result.pages ≤ length tags.now }
+    ensures byte_room { (result.blocks * result.pages) * result.size ≤ length bytes.now }
+{
+    if !geometry.within_limits() {
+        return Geometry::none();
     }
-
-    /// Empties a block and counts an erase more.
-    fn wipe(&mut self, block: u16, erases: u32)
-        requires block { block < 256 }
-        requires erases { erases < 2 ^ 32 - 1 }
-        ensures geometry { self.new.geometry ≡ self.old.geometry }
-        ensures counts { self.new.counts ≡ slice_set self.old.counts block (erases + 1) }
-        ensures written { self.new.written ≡ slice_set self.old.written block 0 }
-        ensures tags { self.new.tags.now ≡ self.old.tags.now }
-        ensures bytes { self.new.bytes.now ≡ self.old.bytes.now }
-    {
-        self.counts[block as usize] = erases + 1;
-        self.written[block as usize] = 0;
+    let places = usize::from(geometry.blocks) * geometry.pages as usize;
+    if places <= tags.len() && places * geometry.size <= bytes.len() {
+        geometry
+    } else {
+        Geometry::none()
     }
 }
 
@@ -111,28 +129,9 @@ fn store(memory: &mut [u8], start: usize, bytes: &[u8])
     memory[start..start + bytes.len()].copy_from_slice(bytes);
 }
 
-/// Copies `size` bytes from `start` on into the buffer, or refuses a buffer of another length.
-fn copy_out(bytes: &[u8], start: usize, size: usize, buf: &mut [u8]) -> Result<(), Refusal>
-    requires { start + size ≤ length bytes.now }
-    ensures answer { result ≡ equal (length buf.old) size WrongLength (Ok tt) }
-    ensures buffer { buf.new ≡ after result (take size (drop start bytes.now)) buf.old }
-{
-    if buf.len() != size {
-        return Err(Refusal::WrongLength);
-    }
-    buf.copy_from_slice(&bytes[start..start + size]);
-    Ok(())
-}
-
-/// The tag at a place. A function of its own, since its slice is known to hold numbers of 16 bits.
-fn tag_at(tags: &[u16], place: usize) -> u16
-    requires { place < length tags.now }
-    ensures { result ≡ slice_index tags.now place % 65536 }
-{
-    tags[place]
-}
-
 impl Chip for Emulated<'_> {
+    ghost use Rattle.emulated.specs.Meaning.{emulated, emulated_laws};
+
     ghost meaning = { emulated };
 
     ghost ran = { ByMeaning emulated };
@@ -140,75 +139,55 @@ impl Chip for Emulated<'_> {
     ghost laws = { emulated_laws };
 
     fn geometry(&self) -> Geometry {
-        self.served()
+        self.geometry
     }
 
     fn count(&self, block: u16) -> Result<u32, Refusal> {
-        let chip = self.served();
-        if block >= chip.blocks {
-            return Err(Refusal::Outside);
-        }
-        Ok(self.erases(block, chip.rated))
+        Ok(self.line(block)?.erases)
     }
 
     fn written(&self, block: u16) -> Result<u32, Refusal> {
-        let chip = self.served();
-        if block >= chip.blocks {
-            return Err(Refusal::Outside);
-        }
-        Ok(self.filled(block, chip.pages))
+        Ok(self.line(block)?.written)
     }
 
     fn tag(&self, block: u16, page: u32) -> Result<u16, Refusal> {
-        let chip = self.served();
-        if block >= chip.blocks || page >= chip.pages {
-            return Err(Refusal::Outside);
-        }
-        if page >= self.written[block as usize] {
-            return Err(Refusal::OutOfTurn);
-        }
-        let place = block as usize * chip.pages as usize + page as usize;
-        Ok(tag_at(self.tags, place))
+        let place = self.written_place(block, page)?;
+        Ok(self.tags[place])
     }
 
     fn read(&self, block: u16, page: u32, buf: &mut [u8]) -> Result<(), Refusal> {
-        let chip = self.served();
-        if block >= chip.blocks || page >= chip.pages {
-            return Err(Refusal::Outside);
+        let place = self.written_place(block, page)?;
+        let size = self.geometry.size;
+        if buf.len() != size {
+            return Err(Refusal::WrongLength);
         }
-        if page >= self.written[block as usize] {
-            return Err(Refusal::OutOfTurn);
-        }
-        let place = block as usize * chip.pages as usize + page as usize;
-        copy_out(self.bytes, place * chip.size, chip.size, buf)
+        buf.copy_from_slice(&self.bytes[place * size..place * size + size]);
+        Ok(())
     }
 
     fn program(&mut self, block: u16, page: u32, tag: u16, bytes: &[u8]) -> Result<(), Refusal> {
-        let chip = self.served();
-        if block >= chip.blocks || page >= chip.pages {
-            return Err(Refusal::Outside);
-        }
-        if page != self.written[block as usize] {
+        let (line, place) = self.locate(block, page)?;
+        if page != line.written {
             return Err(Refusal::OutOfTurn);
         }
-        if bytes.len() != chip.size {
+        if bytes.len() != self.geometry.size {
             return Err(Refusal::WrongLength);
         }
-        let place = block as usize * chip.pages as usize + page as usize;
-        self.put(block, place, tag, bytes, page + 1);
+        self.tags[place] = tag;
+        store(self.bytes, place * bytes.len(), bytes);
+        self.lines[usize::from(block)].written = page + 1;
         Ok(())
     }
 
     fn erase(&mut self, block: u16) -> Result<(), Refusal> {
-        let chip = self.served();
-        if block >= chip.blocks {
-            return Err(Refusal::Outside);
-        }
-        let erases = self.erases(block, chip.rated);
-        if erases >= chip.rated {
+        let line = self.line(block)?;
+        if line.erases >= self.geometry.rated {
             return Err(Refusal::WornOut);
         }
-        self.wipe(block, erases);
+        self.lines[usize::from(block)] = Line {
+            erases: line.erases + 1,
+            written: 0,
+        };
         Ok(())
     }
 }

@@ -1,6 +1,7 @@
-use Rattle.std.proofs.Common.{sym, ◌∙◌}
-use Rattle.emulated.proofs.Answers.{geometry_is}
+use Rattle.emulated.proofs.Lines.{geometry_is}
 use Rattle.emulated.proofs.EmulatedChip.geometry.Goals as goal
 
 pub returns : goal.returns
-returns c = c.served.ensures ∙ sym (geometry_is _ c.args.self.now)
+returns c =
+    let s = c.args.self.now in
+    geometry_is s.geometry s.lines s.tags.now s.bytes.now
