@@ -1,136 +1,128 @@
 -- What one of two chips answers, or becomes, is what their pair answers, or becomes. Assumes nothing.
-use Rattle.std.proofs.Common.{◌≡◌, ℕ, suc, ◌+◌, ◌-◌, ◌<◌, ◌≤◌, Bool, true, false, cond, ltb, [], ◌∷◌, ◌++◌, length, get_or, Ok, Err, Result, sym, refl, ap, ◌∙◌, subst, arith, length-append, length-set, ltb-false, ltb-true, le-ltb, lt-ltb}
+use Rattle.std.proofs.Common.{◌≡◌, ℕ, suc, ◌+◌, ◌-◌, ◌<◌, ◌≤◌, Bool, true, false, cond, ltb, [], ◌∷◌, ◌++◌, length, get_or, Ok, Err, Result, sym, refl, ap, ◌∙◌, subst, arith, length-append, length-set}
 use Rattle.std.proofs.lemmas.List.{get_or_append_left, get_or-append_right, set-append_left, set-append_right}
-use Rattle.flash.specs.declared.Geometry.{Geometry}
+use Rattle.std.proofs.lemmas.Bool.Decides.{nat_tests}
 use Rattle.flash.specs.declared.Refusal.{Refusal}
 use Rattle.flash.specs.declared.Refusal.TheVariants.{Outside, OutOfTurn, WrongLength, WornOut}
-use Rattle.flash.specs.Meaning.{Flash, Block, Page, no_block, no_page, no_chip, geometry_of, block, with_block}
-use Rattle.flash.specs.Calls.{below, equal, in_block, after}
-use Rattle.flash.proofs.Tests.{never_both}
-use Rattle.pair.specs.Joined.{joins, both, joined, split}
-use Rattle.pair.specs.Laws.{Alike, alike}
+use Rattle.flash.specs.Meaning.{Flash, Block, Page, no_block, no_page, no_chip, geometry_of, block, with_block, programmed, erased}
+use Rattle.flash.specs.Calls.{below, equal, in_block, after, tag_answer, program_answer, program_chip, erase_answer, erase_chip}
+use Rattle.pair.specs.declared.Half.{Half}
+use Rattle.pair.specs.declared.Half.TheVariants.{First, Second}
+use Rattle.pair.specs.Joined.{joins, both, joined, half_of}
+use Rattle.pair.specs.Laws.{alike}
 
--- what a split that answers has shown
-pub record Split (f g : Flash) (n : ℕ) : Type 0 where
+-- block b of the chip `whole h` is block j of h, which is a part of it
+pub record Part (whole : Flash → Flash) (h : Flash) (j b : ℕ) : Type 0 where
+  pub p : h.p ≡ (whole h).p
+  pub d : h.d ≡ (whole h).d
+  pub e : h.e ≡ (whole h).e
+  pub test : ltb j (length h.blocks) ≡ ltb b (length (whole h).blocks)
+  pub held : block h j ≡ block (whole h) b
+  pub put : (x : Block) → whole (with_block h j x) ≡ with_block (whole h) b x
+
+-- what the half that has a block shows
+record Found (f g : Flash) (b : ℕ) (half : Half) : Type 0 where
   pub join : joins (geometry_of f) (geometry_of g) ≡ true
-  pub firsts : length f.blocks ≡ n
+  pub is : half ≡ cond (ltb b (length f.blocks)) (First b) (Second (b - length f.blocks))
 
-pub split_is : (f g : Flash) (n : ℕ) → Ok n ≡ split (geometry_of f) (geometry_of g) → Split f g n
-split_is f g n e = go (joins (geometry_of f) (geometry_of g)) refl e
+found : (f g : Flash) (b : ℕ) (half : Half) → Ok half ≡ half_of (geometry_of f) (geometry_of g) b → Found f g b half
+found f g b half e = go (joins (geometry_of f) (geometry_of g)) refl e
   where
-    go : (t : Bool) → joins (geometry_of f) (geometry_of g) ≡ t → Ok n ≡ cond t (Ok (length f.blocks)) (Err Outside) → Split f g n
-    go true q k = record { join = q; firsts = cc }
-    go false q k = absurd (never_both Outside n (sym k))
+    go : (t : Bool) → joins (geometry_of f) (geometry_of g) ≡ t
+        → Ok half ≡ cond t (Ok (cond (ltb b (length f.blocks)) (First b) (Second (b - length f.blocks)))) (Err Outside) → Found f g b half
+    go true q k = record { join = q; is = cc }
+    go false q k = cc
 
--- N, P, D and E of two chips that join
-pub geometry_adds : (f g : Flash) (a b : Geometry) → a ≡ geometry_of f → b ≡ geometry_of g → joins a b ≡ true
-    → record { blocks = a.blocks + b.blocks; pages = a.pages; size = a.size; rated = a.rated } ≡ geometry_of (joined f g)
-geometry_adds f g a b p q h =
-    let join : joins (geometry_of f) (geometry_of g) ≡ true = ap (λ x. joins (geometry_of f) x) (sym q) ∙ ap (λ x. joins x b) (sym p) ∙ h in
-    ap (λ (x : Geometry). record { blocks = x.blocks + b.blocks; pages = x.pages; size = x.size; rated = x.rated }) p
-    ∙ ap (λ (x : Geometry). record { blocks = length f.blocks + x.blocks; pages = f.p; size = f.d; rated = f.e }) q
-    ∙ ap (λ n. record { blocks = n; pages = f.p; size = f.d; rated = f.e }) (sym (length-append f.blocks g.blocks))
-    ∙ ap (λ t. geometry_of (cond t (both f g) no_chip)) (sym join)
+below_first : (n b j : ℕ) → First j ≡ cond (ltb b n) (First b) (Second (b - n)) → (b < n) × (j ≡ b)
+below_first n b j q = grind (arith, nat_tests)
+
+from_second : (n b j : ℕ) → Second j ≡ cond (ltb b n) (First b) (Second (b - n)) → (n ≤ b) × (j ≡ b - n)
+from_second n b j q = grind (arith, nat_tests)
+
+module _ (f g : Flash) (join : joins (geometry_of f) (geometry_of g) ≡ true) where
+  joined_is : both f g ≡ joined f g
+  joined_is = ap (λ t. cond t (both f g) no_chip) (sym join)
+
+  long : length (joined f g).blocks ≡ length f.blocks + length g.blocks
+  long = ap (λ (h : Flash). length h.blocks) (sym joined_is) ∙ length-append f.blocks g.blocks
+
+  part_below : (b : ℕ) → b < length f.blocks → Part (λ z. joined z g) f b b
+  part_below b l = record {
+    p = ap (λ (h : Flash). h.p) joined_is;
+    d = ap (λ (h : Flash). h.d) joined_is;
+    e = ap (λ (h : Flash). h.e) joined_is;
+    test = let n = long in grind (arith, nat_tests);
+    held = sym (get_or_append_left f.blocks g.blocks no_block b l) ∙ ap (λ h. block h b) joined_is;
+    put = λ x.
+        let still : joins (geometry_of (with_block f b x)) (geometry_of g) ≡ true = simp length-set join in
+        ap (λ t. cond t (both (with_block f b x) g) no_chip) still
+        ∙ ap (λ bs. record { p = f.p; d = f.d; e = f.e; blocks = bs }) (sym (set-append_left f.blocks g.blocks b x l))
+        ∙ ap (λ h. with_block h b x) joined_is;
+  }
+
+  part_from : (b : ℕ) → length f.blocks ≤ b → Part (joined f) g (b - length f.blocks) b
+  part_from b l = record {
+    p = sym (alike f g join).p ∙ ap (λ (h : Flash). h.p) joined_is;
+    d = sym (alike f g join).d ∙ ap (λ (h : Flash). h.d) joined_is;
+    e = sym (alike f g join).e ∙ ap (λ (h : Flash). h.e) joined_is;
+    test = let n = long in grind (arith, nat_tests);
+    held = sym (get_or-append_right f.blocks g.blocks (length f.blocks) b no_block refl l) ∙ ap (λ h. block h b) joined_is;
+    put = λ x.
+        let still : joins (geometry_of f) (geometry_of (with_block g (b - length f.blocks) x)) ≡ true = simp length-set join in
+        ap (λ t. cond t (both f (with_block g (b - length f.blocks) x)) no_chip) still
+        ∙ ap (λ bs. record { p = f.p; d = f.d; e = f.e; blocks = bs }) (sym (set-append_right f.blocks g.blocks (length f.blocks) b x refl l))
+        ∙ ap (λ h. with_block h b x) joined_is;
+  }
+
+pub first_part : (f g : Flash) (b j : ℕ) (half : Half) → Ok half ≡ half_of (geometry_of f) (geometry_of g) b → half ≡ First j → Part (λ z. joined z g) f j b
+first_part f g b j half e is =
+    let h = found f g b (First j) (ap (λ (x : Half). Ok x) (sym is) ∙ e) in
+    let at = below_first (length f.blocks) b j h.is in
+    subst (λ k. Part (λ z. joined z g) f k b) (sym at.1) (part_below f g h.join b at.0)
+
+pub second_part : (f g : Flash) (b j : ℕ) (half : Half) → Ok half ≡ half_of (geometry_of f) (geometry_of g) b → half ≡ Second j → Part (joined f) g j b
+second_part f g b j half e is =
+    let h = found f g b (Second j) (ap (λ (x : Half). Ok x) (sym is) ∙ e) in
+    let at = from_second (length f.blocks) b j h.is in
+    subst (λ k. Part (joined f) g k b) (sym at.1) (part_from f g h.join b at.0)
 
 -- a change that is made only where the call is obeyed
-pub lifted : {T X Y : Type 0} (F : X → Y) (a : Result T Refusal) (new old : X) (next : Y) → F new ≡ next → F (after a new old) ≡ after a next (F old)
-lifted F (Ok x) new old next h = h
-lifted F (Err e) new old next h = refl
+after_part : {T X Y : Type 0} (whole : X → Y) (a : Result T Refusal) (new old : X) (next : Y) → whole new ≡ next → whole (after a new old) ≡ after a next (whole old)
+after_part whole (Ok x) new old next made = made
+after_part whole (Err e) new old next made = refl
 
-module _ (f g : Flash) (n : ℕ) (s : Split f g n) where
-  pub joined_is : joined f g ≡ both f g
-  joined_is = ap (λ t. cond t (both f g) no_chip) s.join
-
-  same : Alike f g
-  same = alike f g s.join
-
-  long : length (f.blocks ++ g.blocks) ≡ n + length g.blocks
-  long = length-append f.blocks g.blocks ∙ ap (λ m. m + length g.blocks) s.firsts
-
-  first_test : (b : ℕ) → b < n → ltb b (length f.blocks) ≡ ltb b (length (f.blocks ++ g.blocks))
-  first_test b l =
-      let k : b < length f.blocks = subst (λ m. b < m) (sym s.firsts) l in
-      let j : b < length (f.blocks ++ g.blocks) = omega (arith, long) in
-      lt-ltb b _ k ∙ sym (lt-ltb b _ j)
-
-  second_test : (b : ℕ) → n ≤ b → ltb (b - n) (length g.blocks) ≡ ltb b (length (f.blocks ++ g.blocks))
-  second_test b l = go (ltb b (length (f.blocks ++ g.blocks))) refl
-    where
-      go : (t : Bool) → ltb b (length (f.blocks ++ g.blocks)) ≡ t → ltb (b - n) (length g.blocks) ≡ t
-      go true q = let k : b - n < length g.blocks = omega (arith, ltb-true b (length (f.blocks ++ g.blocks)) q, long) in lt-ltb _ _ k
-      go false q = let k : length g.blocks ≤ b - n = omega (arith, ltb-false b (length (f.blocks ++ g.blocks)) q, long) in le-ltb _ _ k
-
-  block_left : (b : ℕ) → b < n → get_or (f.blocks ++ g.blocks) b no_block ≡ block f b
-  block_left b l = get_or_append_left f.blocks g.blocks no_block b (subst (λ m. b < m) (sym s.firsts) l)
-
-  block_right : (b : ℕ) → n ≤ b → get_or (f.blocks ++ g.blocks) b no_block ≡ block g (b - n)
-  block_right b l = get_or-append_right f.blocks g.blocks n b no_block s.firsts l
-
+module _ {whole : Flash → Flash} {h : Flash} {j b : ℕ} (m : Part whole h j b) where
   -- an answer that rests on P, D, E and the named block alone, as all of them do
-  pub by_first : {T : Type 0} (F : ℕ → ℕ → ℕ → Block → Result T Refusal) (b : ℕ) → b < n
-      → in_block f b (F f.p f.d f.e (block f b)) ≡ in_block (joined f g) b (F (joined f g).p (joined f g).d (joined f g).e (block (joined f g) b))
-  by_first F b l =
-      ap (λ t. cond t (F f.p f.d f.e (block f b)) (Err Outside)) (first_test b l)
-      ∙ ap (λ x. in_block (both f g) b (F f.p f.d f.e x)) (sym (block_left b l))
-      ∙ ap (λ h. in_block h b (F h.p h.d h.e (block h b))) (sym joined_is)
+  answer_part : {T : Type 0} (F : ℕ → ℕ → ℕ → Block → Result T Refusal)
+      → in_block h j (F h.p h.d h.e (block h j)) ≡ in_block (whole h) b (F (whole h).p (whole h).d (whole h).e (block (whole h) b))
+  answer_part F =
+      ap (λ t. cond t (F h.p h.d h.e (block h j)) (Err Outside)) m.test
+      ∙ ap (λ p. in_block (whole h) b (F p h.d h.e (block h j))) m.p
+      ∙ ap (λ d. in_block (whole h) b (F (whole h).p d h.e (block h j))) m.d
+      ∙ ap (λ e. in_block (whole h) b (F (whole h).p (whole h).d e (block h j))) m.e
+      ∙ ap (λ x. in_block (whole h) b (F (whole h).p (whole h).d (whole h).e x)) m.held
 
-  pub by_second : {T : Type 0} (F : ℕ → ℕ → ℕ → Block → Result T Refusal) (b : ℕ) → n ≤ b
-      → in_block g (b - n) (F g.p g.d g.e (block g (b - n))) ≡ in_block (joined f g) b (F (joined f g).p (joined f g).d (joined f g).e (block (joined f g) b))
-  by_second F b l =
-      ap (λ t. cond t (F g.p g.d g.e (block g (b - n))) (Err Outside)) (second_test b l)
-      ∙ ap (λ x. in_block (both f g) b (F g.p g.d g.e x)) (sym (block_right b l))
-      ∙ ap (λ p. in_block (both f g) b (F p g.d g.e (block (both f g) b))) (sym same.p)
-      ∙ ap (λ d. in_block (both f g) b (F f.p d g.e (block (both f g) b))) (sym same.d)
-      ∙ ap (λ e. in_block (both f g) b (F f.p f.d e (block (both f g) b))) (sym same.e)
-      ∙ ap (λ h. in_block h b (F h.p h.d h.e (block h b))) (sym joined_is)
+  pub tag_part : (i : ℕ) → tag_answer h j i ≡ tag_answer (whole h) b i
+  tag_part i = answer_part (λ p d e x. below i p Outside (below i (length x.pages) OutOfTurn (Ok (get_or x.pages i no_page).tag)))
 
-  pub block_first : (b : ℕ) → b < n → block (joined f g) b ≡ block f b
-  block_first b l = ap (λ h. block h b) joined_is ∙ block_left b l
+  program_part : (i n : ℕ) → program_answer h j i n ≡ program_answer (whole h) b i n
+  program_part i n = answer_part (λ p d e x. below i p Outside (equal i (length x.pages) OutOfTurn (equal n d WrongLength (Ok tt))))
 
-  pub block_second : (b : ℕ) → n ≤ b → block (joined f g) b ≡ block g (b - n)
-  block_second b l = ap (λ h. block h b) joined_is ∙ block_right b l
+  erase_part : erase_answer h j ≡ erase_answer (whole h) b
+  erase_part = answer_part (λ p d e x. below x.count e WornOut (Ok tt))
 
-  -- a change of the named block to F of what it was
-  pub change_first : (F : Block → Block) (b : ℕ) → b < n → joined (with_block f b (F (block f b))) g ≡ with_block (joined f g) b (F (block (joined f g) b))
-  change_first F b l =
-      let x = F (block f b) in
-      let still : joins (geometry_of (with_block f b x)) (geometry_of g) ≡ true = simp length-set s.join in
-      ap (λ t. cond t (both (with_block f b x) g) no_chip) still
-      ∙ ap (λ bs. record { p = f.p; d = f.d; e = f.e; blocks = bs }) (sym (set-append_left f.blocks g.blocks b x (subst (λ m. b < m) (sym s.firsts) l)))
-      ∙ ap (λ h. with_block h b x) (sym joined_is)
-      ∙ ap (λ y. with_block (joined f g) b (F y)) (sym (block_first b l))
+  pub erased_part : whole (erased h j) ≡ erased (whole h) b
+  erased_part = m.put _ ∙ ap (λ (x : Block). with_block (whole h) b (record { count = suc x.count; pages = [] })) m.held
 
-  pub change_second : (F : Block → Block) (b : ℕ) → n ≤ b → joined f (with_block g (b - n) (F (block g (b - n)))) ≡ with_block (joined f g) b (F (block (joined f g) b))
-  change_second F b l =
-      let x = F (block g (b - n)) in
-      let still : joins (geometry_of f) (geometry_of (with_block g (b - n) x)) ≡ true = simp length-set s.join in
-      ap (λ t. cond t (both f (with_block g (b - n) x)) no_chip) still
-      ∙ ap (λ bs. record { p = f.p; d = f.d; e = f.e; blocks = bs }) (sym (set-append_right f.blocks g.blocks n b x s.firsts l))
-      ∙ ap (λ h. with_block h b x) (sym joined_is)
-      ∙ ap (λ y. with_block (joined f g) b (F y)) (sym (block_second b l))
+  pub programmed_part : (x : Page) → whole (programmed h j x) ≡ programmed (whole h) b x
+  programmed_part x = m.put _ ∙ ap (λ (y : Block). with_block (whole h) b (record { count = y.count; pages = y.pages ++ (x ∷ []) })) m.held
 
--- each answer by P, D, E and the block
-abbrev pub counts : ℕ → ℕ → ℕ → Block → Result ℕ Refusal
-counts p d e x = Ok x.count
+  pub erase_chip_part : (left : Flash) → left ≡ erase_chip h j → whole left ≡ erase_chip (whole h) b
+  erase_chip_part left q =
+      ap whole q ∙ after_part whole (erase_answer h j) (erased h j) h (erased (whole h) b) erased_part
+      ∙ ap (λ a. after a (erased (whole h) b) (whole h)) erase_part
 
-abbrev pub writtens : ℕ → ℕ → ℕ → Block → Result ℕ Refusal
-writtens p d e x = Ok (length x.pages)
-
-abbrev pub tags : ℕ → ℕ → ℕ → ℕ → Block → Result ℕ Refusal
-tags i p d e x = below i p Outside (below i (length x.pages) OutOfTurn (Ok (get_or x.pages i no_page).tag))
-
-abbrev pub reads : ℕ → ℕ → ℕ → ℕ → ℕ → Block → Result (Unit {0}) Refusal
-reads i m p d e x = below i p Outside (below i (length x.pages) OutOfTurn (equal m d WrongLength (Ok tt)))
-
-abbrev pub programs : ℕ → ℕ → ℕ → ℕ → ℕ → Block → Result (Unit {0}) Refusal
-programs i m p d e x = below i p Outside (equal i (length x.pages) OutOfTurn (equal m d WrongLength (Ok tt)))
-
-abbrev pub erases : ℕ → ℕ → ℕ → Block → Result (Unit {0}) Refusal
-erases p d e x = below x.count e WornOut (Ok tt)
-
--- and each change
-abbrev pub with_page : Page → Block → Block
-with_page y x = record { count = x.count; pages = x.pages ++ (y ∷ []) }
-
-abbrev pub emptied : Block → Block
-emptied x = record { count = suc x.count; pages = [] }
+  pub program_chip_part : (left : Flash) (i : ℕ) (x : Page) → left ≡ program_chip h j i x → whole left ≡ program_chip (whole h) b i x
+  program_chip_part left i x q =
+      ap whole q ∙ after_part whole (program_answer h j i (length x.bytes)) (programmed h j x) h (programmed (whole h) b x) (programmed_part x)
+      ∙ ap (λ a. after a (programmed (whole h) b x) (whole h)) (program_part i (length x.bytes))

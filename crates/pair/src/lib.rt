@@ -4,7 +4,7 @@
 
 ghost use Rattle.std.specs.Prelude.{◌≡◌};
 ghost use Rattle.flash.specs.Meaning.{ByMeaning, lawful_by_meaning, geometry_of};
-ghost use Rattle.pair.specs.Joined.{joins, joined, split};
+ghost use Rattle.pair.specs.Joined.{joins, joined, half_of};
 ghost use Rattle.pair.specs.Laws.{joined_formed};
 
 use flash::{Chip, Geometry, Refusal};
@@ -20,6 +20,12 @@ pub struct Pair<A, B> {
     second: B,
 }
 
+/// Which of two chips has a block, and the block's number there.
+enum Half {
+    First(u16),
+    Second(u16),
+}
+
 impl<A: Chip, B: Chip> Pair<A, B> {
     /// The pair of two chips.
     pub fn new(first: A, second: B) -> Pair<A, B>
@@ -30,16 +36,19 @@ impl<A: Chip, B: Chip> Pair<A, B> {
         Pair { first, second }
     }
 
-    /// How many blocks are the first's; every block is outside where the two do not join.
-    fn split(&self) -> Result<u16, Refusal>
-        ensures { result ≡ split (geometry_of (A.Chip.meaning self.now.first)) (geometry_of (B.Chip.meaning self.now.second)) }
+    /// The half that has a block; every block is outside where the two do not join.
+    fn half(&self, block: u16) -> Result<Half, Refusal>
+        ensures { result ≡ half_of (geometry_of (A.Chip.meaning self.now.first)) (geometry_of (B.Chip.meaning self.now.second)) block }
     {
         let a = self.first.geometry();
         let b = self.second.geometry();
-        if joins(&a, &b) {
-            Ok(a.blocks)
+        if !joins(&a, &b) {
+            return Err(Refusal::Outside);
+        }
+        if block < a.blocks {
+            Ok(Half::First(block))
         } else {
-            Err(Refusal::Outside)
+            Ok(Half::Second(block - a.blocks))
         }
     }
 }
@@ -51,7 +60,7 @@ fn joins(a: &Geometry, b: &Geometry) -> bool
     a.pages == b.pages
         && a.size == b.size
         && a.rated == b.rated
-        && a.blocks as u32 + b.blocks as u32 <= MOST_BLOCKS
+        && u32::from(a.blocks) + u32::from(b.blocks) <= MOST_BLOCKS
 }
 
 impl<A: Chip, B: Chip> Chip for Pair<A, B> {
@@ -67,9 +76,7 @@ impl<A: Chip, B: Chip> Chip for Pair<A, B> {
         if joins(&a, &b) {
             Geometry {
                 blocks: a.blocks + b.blocks,
-                pages: a.pages,
-                size: a.size,
-                rated: a.rated,
+                ..a
             }
         } else {
             Geometry::none()
@@ -77,56 +84,44 @@ impl<A: Chip, B: Chip> Chip for Pair<A, B> {
     }
 
     fn count(&self, block: u16) -> Result<u32, Refusal> {
-        let n = self.split()?;
-        if block < n {
-            self.first.count(block)
-        } else {
-            self.second.count(block - n)
+        match self.half(block)? {
+            Half::First(block) => self.first.count(block),
+            Half::Second(block) => self.second.count(block),
         }
     }
 
     fn written(&self, block: u16) -> Result<u32, Refusal> {
-        let n = self.split()?;
-        if block < n {
-            self.first.written(block)
-        } else {
-            self.second.written(block - n)
+        match self.half(block)? {
+            Half::First(block) => self.first.written(block),
+            Half::Second(block) => self.second.written(block),
         }
     }
 
     fn tag(&self, block: u16, page: u32) -> Result<u16, Refusal> {
-        let n = self.split()?;
-        if block < n {
-            self.first.tag(block, page)
-        } else {
-            self.second.tag(block - n, page)
+        match self.half(block)? {
+            Half::First(block) => self.first.tag(block, page),
+            Half::Second(block) => self.second.tag(block, page),
         }
     }
 
     fn read(&self, block: u16, page: u32, buf: &mut [u8]) -> Result<(), Refusal> {
-        let n = self.split()?;
-        if block < n {
-            self.first.read(block, page, buf)
-        } else {
-            self.second.read(block - n, page, buf)
+        match self.half(block)? {
+            Half::First(block) => self.first.read(block, page, buf),
+            Half::Second(block) => self.second.read(block, page, buf),
         }
     }
 
     fn program(&mut self, block: u16, page: u32, tag: u16, bytes: &[u8]) -> Result<(), Refusal> {
-        let n = self.split()?;
-        if block < n {
-            self.first.program(block, page, tag, bytes)
-        } else {
-            self.second.program(block - n, page, tag, bytes)
+        match self.half(block)? {
+            Half::First(block) => self.first.program(block, page, tag, bytes),
+            Half::Second(block) => self.second.program(block, page, tag, bytes),
         }
     }
 
     fn erase(&mut self, block: u16) -> Result<(), Refusal> {
-        let n = self.split()?;
-        if block < n {
-            self.first.erase(block)
-        } else {
-            self.second.erase(block - n)
+        match self.half(block)? {
+            Half::First(block) => self.first.erase(block),
+            Half::Second(block) => self.second.erase(block),
         }
     }
 }

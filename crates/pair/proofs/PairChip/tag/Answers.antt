@@ -1,21 +1,15 @@
 use Rattle.std.proofs.Common.{◌∙◌}
-use Rattle.pair.proofs.Halves.{split_is, by_first, by_second, tags}
+use Rattle.pair.proofs.Halves.{first_part, second_part, tag_part}
 use Rattle.pair.proofs.PairChip.tag.Goals as goal
 
-pub returns-then-block-n : goal.returns-then-block-n
-returns-then-block-n g c =
+pub returns-in-First : goal.returns-in-First
+returns-in-First g c =
     let f = g.A.Chip.meaning c.args.self.now.first in
     let k = g.B.Chip.meaning c.args.self.now.second in
-    let n = c.in_ok-n.n in
-    let s = split_is f k n c.in_ok-n.ensures in
-    let b = c.args.block in
-    c.tag.ensures ∙ by_first f k n s (tags c.args.page) b c.if-block-n.true
+    c.tag.ensures ∙ tag_part (first_part f k c.args.block c.in-First.block _ c.in_ok-block.ensures c.in-First.is) c.args.page
 
-pub returns-else-block-n : goal.returns-else-block-n
-returns-else-block-n g c =
+pub returns-in-Second : goal.returns-in-Second
+returns-in-Second g c =
     let f = g.A.Chip.meaning c.args.self.now.first in
     let k = g.B.Chip.meaning c.args.self.now.second in
-    let n = c.in_ok-n.n in
-    let s = split_is f k n c.in_ok-n.ensures in
-    let b = c.args.block in
-    c.tag-else-block-n.ensures ∙ by_second f k n s (tags c.args.page) b c.if-block-n.false
+    c.tag-in-Second.ensures ∙ tag_part (second_part f k c.args.block c.in-Second.block _ c.in_ok-block.ensures c.in-Second.is) c.args.page
