@@ -16,24 +16,13 @@ const SMALL: Geometry = Geometry {
     rated: 2,
 };
 
-/// A refusal in words.
-fn words(refusal: Refusal) -> &'static str {
-    match refusal {
-        Refusal::Outside => "no such block or page",
-        Refusal::OutOfTurn => "a page out of turn or unwritten",
-        Refusal::WrongLength => "not as long as a page",
-        Refusal::WornOut => "the block is worn out",
-    }
-}
-
 /// Ends the line of an action by its outcome.
 fn outcome(rt: &HostRuntime, answer: Result<(), Refusal>) -> io::Result<()> {
     match answer {
         Ok(()) => println!(rt; "done"),
         Err(refusal) => {
             let number = refusal.number();
-            let why = words(refusal);
-            println!(rt; "refused by {number}, {why}")
+            println!(rt; "refused by {number}, {refusal}")
         }
     }
 }
@@ -54,12 +43,11 @@ fn program<C: Chip>(
 fn read<C: Chip>(rt: &HostRuntime, chip: &C, block: u16, page: u32, len: usize) -> io::Result<()> {
     print!(rt; "read block {block} page {page} into {len} bytes: ")?;
     let mut memory = [0u8; 8];
-    let len = len.min(8);
-    let buf = &mut memory[0..len];
-    match (chip.read(block, page, buf), chip.tag(block, page)) {
-        (Ok(()), Ok(tag)) => println!(rt; "tag {tag}, bytes {buf:?}"),
-        (Err(refusal), _) => outcome(rt, Err(refusal)),
-        (_, Err(refusal)) => outcome(rt, Err(refusal)),
+    let buf = &mut memory[..len.min(8)];
+    let answer = chip.read(block, page, buf);
+    match answer.and_then(|()| chip.tag(block, page)) {
+        Ok(tag) => println!(rt; "tag {tag}, bytes {buf:?}"),
+        Err(refusal) => outcome(rt, Err(refusal)),
     }
 }
 
@@ -68,13 +56,16 @@ fn erase<C: Chip>(rt: &HostRuntime, chip: &mut C, block: u16) -> io::Result<()> 
     outcome(rt, chip.erase(block))
 }
 
-/// What a block holds.
+/// How often a block was erased, and how many of its pages are written.
+fn held<C: Chip>(chip: &C, block: u16) -> Result<(u32, u32), Refusal> {
+    Ok((chip.count(block)?, chip.written(block)?))
+}
+
 fn ask<C: Chip>(rt: &HostRuntime, chip: &C, block: u16) -> io::Result<()> {
     print!(rt; "ask block {block}: ")?;
-    match (chip.count(block), chip.written(block)) {
-        (Ok(count), Ok(written)) => println!(rt; "{count} erases, {written} pages written"),
-        (Err(refusal), _) => outcome(rt, Err(refusal)),
-        (_, Err(refusal)) => outcome(rt, Err(refusal)),
+    match held(chip, block) {
+        Ok((count, written)) => println!(rt; "{count} erases, {written} pages written"),
+        Err(refusal) => outcome(rt, Err(refusal)),
     }
 }
 
