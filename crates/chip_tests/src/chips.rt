@@ -1,5 +1,5 @@
 //! The emulated chip and the tools over it: answers, refusals, limits and memory.
-use crate::steps::{Call, Outcome, run};
+use crate::steps::{Call, Outcome, Told, run};
 use emulated::Emulated;
 use flash::{Chip, Geometry, Refusal};
 use std::process::Abort;
@@ -16,11 +16,7 @@ fn on_a_chip(rt: &impl Abort, table: &[(Call, Outcome)], tags: usize, bytes: usi
         size: 4,
         rated: 2,
     };
-    let mut chip = Emulated::new(
-        geometry,
-        &mut tag_memory[0..tags],
-        &mut byte_memory[0..bytes],
-    );
+    let mut chip = Emulated::new(geometry, &mut tag_memory[..tags], &mut byte_memory[..bytes]);
     run(rt, &mut chip, table);
 }
 
@@ -53,13 +49,13 @@ fn questions(rt: HostRuntime) {
 #[test]
 fn begins_blank(rt: HostRuntime) {
     let table = [
-        (Call::Count(0), Outcome::Is(0)),
-        (Call::Written(0), Outcome::Is(0)),
-        (Call::Tag(0, 0), Outcome::Refused(13)),
-        (Call::Read(0, 0, 4), Outcome::Refused(13)),
-        (Call::Count(2), Outcome::Is(0)),
-        (Call::Written(2), Outcome::Is(0)),
-        (Call::Tag(2, 1), Outcome::Refused(13)),
+        (Call::Count(0), Ok(Told::Is(0))),
+        (Call::Written(0), Ok(Told::Is(0))),
+        (Call::Tag(0, 0), Err(Refusal::OutOfTurn)),
+        (Call::Read(0, 0, 4), Err(Refusal::OutOfTurn)),
+        (Call::Count(2), Ok(Told::Is(0))),
+        (Call::Written(2), Ok(Told::Is(0))),
+        (Call::Tag(2, 1), Err(Refusal::OutOfTurn)),
     ];
     on_a_chip(&rt, &table, 6, 24);
 }
@@ -67,14 +63,14 @@ fn begins_blank(rt: HostRuntime) {
 #[test]
 fn keeps_what_is_programmed(rt: HostRuntime) {
     let table = [
-        (Call::Program(1, 0, 65535, 1, 4), Outcome::Done),
-        (Call::Program(1, 1, 0, 250, 4), Outcome::Done),
-        (Call::Read(1, 0, 4), Outcome::Holds(1)),
-        (Call::Read(1, 1, 4), Outcome::Holds(250)),
-        (Call::Tag(1, 0), Outcome::Is(65535)),
-        (Call::Tag(1, 1), Outcome::Is(0)),
-        (Call::Written(0), Outcome::Is(0)),
-        (Call::Written(2), Outcome::Is(0)),
+        (Call::Program(1, 0, 65535, 1, 4), Ok(Told::Done)),
+        (Call::Program(1, 1, 0, 250, 4), Ok(Told::Done)),
+        (Call::Read(1, 0, 4), Ok(Told::Holds(1))),
+        (Call::Read(1, 1, 4), Ok(Told::Holds(250))),
+        (Call::Tag(1, 0), Ok(Told::Is(65535))),
+        (Call::Tag(1, 1), Ok(Told::Is(0))),
+        (Call::Written(0), Ok(Told::Is(0))),
+        (Call::Written(2), Ok(Told::Is(0))),
     ];
     on_a_chip(&rt, &table, 6, 24);
 }
@@ -82,15 +78,15 @@ fn keeps_what_is_programmed(rt: HostRuntime) {
 #[test]
 fn full_block(rt: HostRuntime) {
     let table = [
-        (Call::Program(0, 1, 5, 5, 4), Outcome::Refused(13)),
-        (Call::Program(0, 0, 5, 5, 4), Outcome::Done),
-        (Call::Program(0, 0, 6, 6, 4), Outcome::Refused(13)),
-        (Call::Program(0, 1, 7, 7, 4), Outcome::Done),
-        (Call::Program(0, 2, 8, 8, 4), Outcome::Refused(12)),
-        (Call::Program(0, 1, 8, 8, 4), Outcome::Refused(13)),
-        (Call::Tag(0, 0), Outcome::Is(5)),
-        (Call::Tag(0, 1), Outcome::Is(7)),
-        (Call::Written(0), Outcome::Is(2)),
+        (Call::Program(0, 1, 5, 5, 4), Err(Refusal::OutOfTurn)),
+        (Call::Program(0, 0, 5, 5, 4), Ok(Told::Done)),
+        (Call::Program(0, 0, 6, 6, 4), Err(Refusal::OutOfTurn)),
+        (Call::Program(0, 1, 7, 7, 4), Ok(Told::Done)),
+        (Call::Program(0, 2, 8, 8, 4), Err(Refusal::Outside)),
+        (Call::Program(0, 1, 8, 8, 4), Err(Refusal::OutOfTurn)),
+        (Call::Tag(0, 0), Ok(Told::Is(5))),
+        (Call::Tag(0, 1), Ok(Told::Is(7))),
+        (Call::Written(0), Ok(Told::Is(2))),
     ];
     on_a_chip(&rt, &table, 6, 24);
 }
@@ -99,14 +95,14 @@ fn full_block(rt: HostRuntime) {
 fn worn_block(rt: HostRuntime) {
     // a worn block is still programmed and read
     let table = [
-        (Call::Erase(2), Outcome::Done),
-        (Call::Erase(2), Outcome::Done),
-        (Call::Program(2, 0, 4, 4, 4), Outcome::Done),
-        (Call::Erase(2), Outcome::Refused(15)),
-        (Call::Count(2), Outcome::Is(2)),
-        (Call::Written(2), Outcome::Is(1)),
-        (Call::Read(2, 0, 4), Outcome::Holds(4)),
-        (Call::Erase(1), Outcome::Done),
+        (Call::Erase(2), Ok(Told::Done)),
+        (Call::Erase(2), Ok(Told::Done)),
+        (Call::Program(2, 0, 4, 4, 4), Ok(Told::Done)),
+        (Call::Erase(2), Err(Refusal::WornOut)),
+        (Call::Count(2), Ok(Told::Is(2))),
+        (Call::Written(2), Ok(Told::Is(1))),
+        (Call::Read(2, 0, 4), Ok(Told::Holds(4))),
+        (Call::Erase(1), Ok(Told::Done)),
     ];
     on_a_chip(&rt, &table, 6, 24);
 }
@@ -114,17 +110,17 @@ fn worn_block(rt: HostRuntime) {
 #[test]
 fn an_erase_leaves_the_neighbours(rt: HostRuntime) {
     let table = [
-        (Call::Program(0, 0, 10, 10, 4), Outcome::Done),
-        (Call::Program(1, 0, 20, 20, 4), Outcome::Done),
-        (Call::Program(2, 0, 30, 30, 4), Outcome::Done),
-        (Call::Erase(1), Outcome::Done),
-        (Call::Count(0), Outcome::Is(0)),
-        (Call::Count(1), Outcome::Is(1)),
-        (Call::Count(2), Outcome::Is(0)),
-        (Call::Read(0, 0, 4), Outcome::Holds(10)),
-        (Call::Read(1, 0, 4), Outcome::Refused(13)),
-        (Call::Read(2, 0, 4), Outcome::Holds(30)),
-        (Call::Tag(2, 0), Outcome::Is(30)),
+        (Call::Program(0, 0, 10, 10, 4), Ok(Told::Done)),
+        (Call::Program(1, 0, 20, 20, 4), Ok(Told::Done)),
+        (Call::Program(2, 0, 30, 30, 4), Ok(Told::Done)),
+        (Call::Erase(1), Ok(Told::Done)),
+        (Call::Count(0), Ok(Told::Is(0))),
+        (Call::Count(1), Ok(Told::Is(1))),
+        (Call::Count(2), Ok(Told::Is(0))),
+        (Call::Read(0, 0, 4), Ok(Told::Holds(10))),
+        (Call::Read(1, 0, 4), Err(Refusal::OutOfTurn)),
+        (Call::Read(2, 0, 4), Ok(Told::Holds(30))),
+        (Call::Tag(2, 0), Ok(Told::Is(30))),
     ];
     on_a_chip(&rt, &table, 6, 24);
 }
@@ -132,18 +128,18 @@ fn an_erase_leaves_the_neighbours(rt: HostRuntime) {
 #[test]
 fn the_last_page_of_the_last_block(rt: HostRuntime) {
     let table = [
-        (Call::Program(2, 0, 1, 1, 4), Outcome::Done),
-        (Call::Program(2, 1, 2, 2, 4), Outcome::Done),
-        (Call::Tag(2, 1), Outcome::Is(2)),
-        (Call::Read(2, 1, 4), Outcome::Holds(2)),
-        (Call::Tag(2, 2), Outcome::Refused(12)),
-        (Call::Read(2, 2, 4), Outcome::Refused(12)),
-        (Call::Count(3), Outcome::Refused(12)),
-        (Call::Written(3), Outcome::Refused(12)),
-        (Call::Tag(3, 0), Outcome::Refused(12)),
-        (Call::Read(3, 0, 4), Outcome::Refused(12)),
-        (Call::Program(3, 0, 3, 3, 4), Outcome::Refused(12)),
-        (Call::Erase(3), Outcome::Refused(12)),
+        (Call::Program(2, 0, 1, 1, 4), Ok(Told::Done)),
+        (Call::Program(2, 1, 2, 2, 4), Ok(Told::Done)),
+        (Call::Tag(2, 1), Ok(Told::Is(2))),
+        (Call::Read(2, 1, 4), Ok(Told::Holds(2))),
+        (Call::Tag(2, 2), Err(Refusal::Outside)),
+        (Call::Read(2, 2, 4), Err(Refusal::Outside)),
+        (Call::Count(3), Err(Refusal::Outside)),
+        (Call::Written(3), Err(Refusal::Outside)),
+        (Call::Tag(3, 0), Err(Refusal::Outside)),
+        (Call::Read(3, 0, 4), Err(Refusal::Outside)),
+        (Call::Program(3, 0, 3, 3, 4), Err(Refusal::Outside)),
+        (Call::Erase(3), Err(Refusal::Outside)),
     ];
     on_a_chip(&rt, &table, 6, 24);
 }
@@ -151,17 +147,17 @@ fn the_last_page_of_the_last_block(rt: HostRuntime) {
 #[test]
 fn lengths(rt: HostRuntime) {
     let table = [
-        (Call::Program(0, 0, 1, 1, 3), Outcome::Refused(14)),
-        (Call::Program(0, 0, 1, 1, 5), Outcome::Refused(14)),
-        (Call::Written(0), Outcome::Is(0)),
-        (Call::Program(0, 0, 1, 1, 4), Outcome::Done),
-        (Call::Read(0, 0, 3), Outcome::Refused(14)),
-        (Call::Read(0, 0, 5), Outcome::Refused(14)),
+        (Call::Program(0, 0, 1, 1, 3), Err(Refusal::WrongLength)),
+        (Call::Program(0, 0, 1, 1, 5), Err(Refusal::WrongLength)),
+        (Call::Written(0), Ok(Told::Is(0))),
+        (Call::Program(0, 0, 1, 1, 4), Ok(Told::Done)),
+        (Call::Read(0, 0, 3), Err(Refusal::WrongLength)),
+        (Call::Read(0, 0, 5), Err(Refusal::WrongLength)),
         // the lowest number is answered
-        (Call::Read(3, 0, 3), Outcome::Refused(12)),
-        (Call::Read(0, 1, 3), Outcome::Refused(13)),
-        (Call::Program(0, 2, 1, 1, 3), Outcome::Refused(12)),
-        (Call::Program(0, 0, 1, 1, 3), Outcome::Refused(13)),
+        (Call::Read(3, 0, 3), Err(Refusal::Outside)),
+        (Call::Read(0, 1, 3), Err(Refusal::OutOfTurn)),
+        (Call::Program(0, 2, 1, 1, 3), Err(Refusal::Outside)),
+        (Call::Program(0, 0, 1, 1, 3), Err(Refusal::OutOfTurn)),
     ];
     on_a_chip(&rt, &table, 6, 24);
 }
@@ -169,12 +165,12 @@ fn lengths(rt: HostRuntime) {
 #[test]
 fn a_byte_or_a_tag_short(rt: HostRuntime) {
     let table = [
-        (Call::Count(0), Outcome::Refused(12)),
-        (Call::Written(0), Outcome::Refused(12)),
-        (Call::Tag(0, 0), Outcome::Refused(12)),
-        (Call::Read(0, 0, 4), Outcome::Refused(12)),
-        (Call::Program(0, 0, 1, 1, 4), Outcome::Refused(12)),
-        (Call::Erase(0), Outcome::Refused(12)),
+        (Call::Count(0), Err(Refusal::Outside)),
+        (Call::Written(0), Err(Refusal::Outside)),
+        (Call::Tag(0, 0), Err(Refusal::Outside)),
+        (Call::Read(0, 0, 4), Err(Refusal::Outside)),
+        (Call::Program(0, 0, 1, 1, 4), Err(Refusal::Outside)),
+        (Call::Erase(0), Err(Refusal::Outside)),
     ];
     on_a_chip(&rt, &table, 6, 23);
     on_a_chip(&rt, &table, 5, 24);
@@ -183,21 +179,21 @@ fn a_byte_or_a_tag_short(rt: HostRuntime) {
 #[test]
 fn copies(rt: HostRuntime) {
     let table = [
-        (Call::Program(0, 0, 70, 70, 4), Outcome::Done),
-        (Call::Program(0, 1, 71, 75, 4), Outcome::Done),
-        (Call::Copy(0, 1, 2, 4), Outcome::Holds(75)),
-        (Call::Copy(0, 0, 2, 4), Outcome::Holds(70)),
-        (Call::Tag(2, 0), Outcome::Is(71)),
-        (Call::Tag(2, 1), Outcome::Is(70)),
-        (Call::Read(2, 1, 4), Outcome::Holds(70)),
+        (Call::Program(0, 0, 70, 70, 4), Ok(Told::Done)),
+        (Call::Program(0, 1, 71, 75, 4), Ok(Told::Done)),
+        (Call::Copy(0, 1, 2, 4), Ok(Told::Holds(75))),
+        (Call::Copy(0, 0, 2, 4), Ok(Told::Holds(70))),
+        (Call::Tag(2, 0), Ok(Told::Is(71))),
+        (Call::Tag(2, 1), Ok(Told::Is(70))),
+        (Call::Read(2, 1, 4), Ok(Told::Holds(70))),
         // full, no such block, no such page, unwritten, too short
-        (Call::Copy(0, 0, 2, 4), Outcome::Refused(12)),
-        (Call::Copy(0, 0, 3, 4), Outcome::Refused(12)),
-        (Call::Copy(3, 0, 1, 4), Outcome::Refused(12)),
-        (Call::Copy(0, 2, 1, 4), Outcome::Refused(12)),
-        (Call::Copy(1, 0, 1, 4), Outcome::Refused(13)),
-        (Call::Copy(0, 0, 1, 3), Outcome::Refused(14)),
-        (Call::Written(1), Outcome::Is(0)),
+        (Call::Copy(0, 0, 2, 4), Err(Refusal::Outside)),
+        (Call::Copy(0, 0, 3, 4), Err(Refusal::Outside)),
+        (Call::Copy(3, 0, 1, 4), Err(Refusal::Outside)),
+        (Call::Copy(0, 2, 1, 4), Err(Refusal::Outside)),
+        (Call::Copy(1, 0, 1, 4), Err(Refusal::OutOfTurn)),
+        (Call::Copy(0, 0, 1, 3), Err(Refusal::WrongLength)),
+        (Call::Written(1), Ok(Told::Is(0))),
     ];
     on_a_chip(&rt, &table, 6, 24);
 }
@@ -205,23 +201,23 @@ fn copies(rt: HostRuntime) {
 #[test]
 fn moves(rt: HostRuntime) {
     let table = [
-        (Call::Program(2, 0, 70, 70, 4), Outcome::Done),
-        (Call::Program(2, 1, 71, 75, 4), Outcome::Done),
-        (Call::Move(2, 0, 4), Outcome::Holds(75)),
-        (Call::Tag(0, 0), Outcome::Is(70)),
-        (Call::Tag(0, 1), Outcome::Is(71)),
-        (Call::Written(2), Outcome::Is(0)),
-        (Call::Count(2), Outcome::Is(1)),
-        (Call::Count(0), Outcome::Is(0)),
+        (Call::Program(2, 0, 70, 70, 4), Ok(Told::Done)),
+        (Call::Program(2, 1, 71, 75, 4), Ok(Told::Done)),
+        (Call::Move(2, 0, 4), Ok(Told::Holds(75))),
+        (Call::Tag(0, 0), Ok(Told::Is(70))),
+        (Call::Tag(0, 1), Ok(Told::Is(71))),
+        (Call::Written(2), Ok(Told::Is(0))),
+        (Call::Count(2), Ok(Told::Is(1))),
+        (Call::Count(0), Ok(Told::Is(0))),
         // no such block, not blank, itself, too short, worn out
-        (Call::Move(3, 2, 4), Outcome::Refused(12)),
-        (Call::Move(0, 3, 4), Outcome::Refused(12)),
-        (Call::Move(2, 0, 4), Outcome::Refused(13)),
-        (Call::Move(0, 0, 4), Outcome::Refused(13)),
-        (Call::Move(0, 1, 3), Outcome::Refused(14)),
-        (Call::Erase(2), Outcome::Done),
-        (Call::Move(2, 1, 4), Outcome::Refused(15)),
-        (Call::Written(1), Outcome::Is(0)),
+        (Call::Move(3, 2, 4), Err(Refusal::Outside)),
+        (Call::Move(0, 3, 4), Err(Refusal::Outside)),
+        (Call::Move(2, 0, 4), Err(Refusal::OutOfTurn)),
+        (Call::Move(0, 0, 4), Err(Refusal::OutOfTurn)),
+        (Call::Move(0, 1, 3), Err(Refusal::WrongLength)),
+        (Call::Erase(2), Ok(Told::Done)),
+        (Call::Move(2, 1, 4), Err(Refusal::WornOut)),
+        (Call::Written(1), Ok(Told::Is(0))),
     ];
     on_a_chip(&rt, &table, 6, 24);
 }

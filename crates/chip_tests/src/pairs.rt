@@ -1,7 +1,7 @@
 //! Pairs, and pairs of pairs.
-use crate::steps::{Call, Outcome, run};
+use crate::steps::{Call, Outcome, Told, run};
 use emulated::Emulated;
-use flash::{Chip, Geometry};
+use flash::{Chip, Geometry, Refusal};
 use pair::Pair;
 use std::process::Abort;
 
@@ -14,12 +14,7 @@ const TINY: Geometry = Geometry {
 };
 
 /// Three blocks, and otherwise the same.
-const LARGER: Geometry = Geometry {
-    blocks: 3,
-    pages: 2,
-    size: 1,
-    rated: 3,
-};
+const LARGER: Geometry = Geometry { blocks: 3, ..TINY };
 
 /// N, P, D and E of the pair of a chip of two blocks and one of the geometry handed in.
 fn joined_with(other: Geometry) -> Geometry {
@@ -38,36 +33,19 @@ fn common_numbers(rt: HostRuntime) {
         joined_with(LARGER),
         Geometry {
             blocks: 5,
-            pages: 2,
-            size: 1,
-            rated: 3,
+            ..LARGER
         }
     );
     assert_eq!(rt;
-        joined_with(Geometry {
-            blocks: 3,
-            pages: 3,
-            size: 1,
-            rated: 3,
-        }),
+        joined_with(Geometry { pages: 3, ..LARGER }),
         Geometry::none()
     );
     assert_eq!(rt;
-        joined_with(Geometry {
-            blocks: 3,
-            pages: 2,
-            size: 2,
-            rated: 3,
-        }),
+        joined_with(Geometry { size: 2, ..LARGER }),
         Geometry::none()
     );
     assert_eq!(rt;
-        joined_with(Geometry {
-            blocks: 3,
-            pages: 2,
-            size: 1,
-            rated: 4,
-        }),
+        joined_with(Geometry { rated: 4, ..LARGER }),
         Geometry::none()
     );
     // a chip that is not there has another P, D and E
@@ -88,44 +66,35 @@ fn on_a_pair(rt: &impl Abort, other: Geometry, table: &[(Call, Outcome)]) {
 #[test]
 fn chips_that_do_not_join(rt: HostRuntime) {
     let table = [
-        (Call::Count(0), Outcome::Refused(12)),
-        (Call::Written(0), Outcome::Refused(12)),
-        (Call::Tag(0, 0), Outcome::Refused(12)),
-        (Call::Read(0, 0, 1), Outcome::Refused(12)),
-        (Call::Program(0, 0, 1, 1, 1), Outcome::Refused(12)),
-        (Call::Erase(0), Outcome::Refused(12)),
+        (Call::Count(0), Err(Refusal::Outside)),
+        (Call::Written(0), Err(Refusal::Outside)),
+        (Call::Tag(0, 0), Err(Refusal::Outside)),
+        (Call::Read(0, 0, 1), Err(Refusal::Outside)),
+        (Call::Program(0, 0, 1, 1, 1), Err(Refusal::Outside)),
+        (Call::Erase(0), Err(Refusal::Outside)),
     ];
-    on_a_pair(
-        &rt,
-        Geometry {
-            blocks: 3,
-            pages: 2,
-            size: 2,
-            rated: 3,
-        },
-        &table,
-    );
+    on_a_pair(&rt, Geometry { size: 2, ..LARGER }, &table);
 }
 
 #[test]
 fn the_first_and_then_the_second(rt: HostRuntime) {
     let table = [
-        (Call::Program(1, 0, 10, 10, 1), Outcome::Done),
-        (Call::Program(2, 0, 20, 20, 1), Outcome::Done),
-        (Call::Erase(4), Outcome::Done),
-        (Call::Tag(1, 0), Outcome::Is(10)),
-        (Call::Read(2, 0, 1), Outcome::Holds(20)),
-        (Call::Read(2, 0, 2), Outcome::Refused(14)),
-        (Call::Written(0), Outcome::Is(0)),
-        (Call::Written(3), Outcome::Is(0)),
-        (Call::Count(4), Outcome::Is(1)),
-        (Call::Count(2), Outcome::Is(0)),
-        (Call::Count(5), Outcome::Refused(12)),
-        (Call::Program(4, 1, 21, 21, 1), Outcome::Refused(13)),
-        (Call::Copy(1, 0, 4, 1), Outcome::Holds(10)),
-        (Call::Tag(4, 0), Outcome::Is(10)),
-        (Call::Move(2, 0, 1), Outcome::Holds(20)),
-        (Call::Tag(0, 0), Outcome::Is(20)),
+        (Call::Program(1, 0, 10, 10, 1), Ok(Told::Done)),
+        (Call::Program(2, 0, 20, 20, 1), Ok(Told::Done)),
+        (Call::Erase(4), Ok(Told::Done)),
+        (Call::Tag(1, 0), Ok(Told::Is(10))),
+        (Call::Read(2, 0, 1), Ok(Told::Holds(20))),
+        (Call::Read(2, 0, 2), Err(Refusal::WrongLength)),
+        (Call::Written(0), Ok(Told::Is(0))),
+        (Call::Written(3), Ok(Told::Is(0))),
+        (Call::Count(4), Ok(Told::Is(1))),
+        (Call::Count(2), Ok(Told::Is(0))),
+        (Call::Count(5), Err(Refusal::Outside)),
+        (Call::Program(4, 1, 21, 21, 1), Err(Refusal::OutOfTurn)),
+        (Call::Copy(1, 0, 4, 1), Ok(Told::Holds(10))),
+        (Call::Tag(4, 0), Ok(Told::Is(10))),
+        (Call::Move(2, 0, 1), Ok(Told::Holds(20))),
+        (Call::Tag(0, 0), Ok(Told::Is(20))),
     ];
     on_a_pair(&rt, LARGER, &table);
 }
@@ -133,14 +102,14 @@ fn the_first_and_then_the_second(rt: HostRuntime) {
 #[test]
 fn a_pair_of_a_pair(rt: HostRuntime) {
     let table = [
-        (Call::Program(4, 0, 40, 4, 1), Outcome::Done),
-        (Call::Program(4, 1, 41, 5, 1), Outcome::Done),
-        (Call::Move(4, 6, 1), Outcome::Holds(5)),
-        (Call::Tag(6, 0), Outcome::Is(40)),
-        (Call::Tag(6, 1), Outcome::Is(41)),
-        (Call::Count(4), Outcome::Is(1)),
-        (Call::Written(4), Outcome::Is(0)),
-        (Call::Erase(7), Outcome::Refused(12)),
+        (Call::Program(4, 0, 40, 4, 1), Ok(Told::Done)),
+        (Call::Program(4, 1, 41, 5, 1), Ok(Told::Done)),
+        (Call::Move(4, 6, 1), Ok(Told::Holds(5))),
+        (Call::Tag(6, 0), Ok(Told::Is(40))),
+        (Call::Tag(6, 1), Ok(Told::Is(41))),
+        (Call::Count(4), Ok(Told::Is(1))),
+        (Call::Written(4), Ok(Told::Is(0))),
+        (Call::Erase(7), Err(Refusal::Outside)),
     ];
     let mut tags = [0u16; 4];
     let mut bytes = [0u8; 4];

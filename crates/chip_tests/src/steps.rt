@@ -4,6 +4,7 @@ use flash::{Chip, Refusal};
 use std::process::Abort;
 
 /// A call with its arguments: the block first, then the page. `len` bytes are handed in, or a buffer of that length, at most eight.
+/// A value and not a closure, as a table of closures would need a box for each row.
 #[derive(Clone, Copy)]
 pub enum Call {
     Count(u16),
@@ -20,122 +21,69 @@ pub enum Call {
     Move(u16, u16, usize),
 }
 
-/// What came of a call.
+/// What an obeyed call told.
 #[derive(Clone, Copy, PartialEq, Eq, Debug)]
-pub enum Outcome {
+pub enum Told {
     Done,
     Is(u32),
     /// The buffer holds bytes from this one on, each next one larger by 1.
     Holds(u8),
-    /// By a number, and the buffer is as it was.
-    Refused(u8),
-    /// The buffer holds anything else.
+    /// The buffer holds anything else, or a refused call wrote to it.
     Spoilt,
 }
+
+/// What came of a call; a refused one left its buffer as it was.
+pub type Outcome = Result<Told, Refusal>;
 
 /// What a buffer holds before a call.
 const UNTOUCHED: u8 = 9;
 
 /// Eight bytes, each one larger by 1 than the one before.
 fn rising(first: u8) -> [u8; 8] {
-    let mut bytes = [first; 8];
-    for i in 0..8u8 {
-        bytes[i as usize] = first.wrapping_add(i);
-    }
-    bytes
+    [0, 1, 2, 3, 4, 5, 6, 7].map(|i| first.wrapping_add(i))
 }
 
-/// The outcome of a call that was to fill the first `len` bytes of a buffer.
-fn filled(answer: Result<(), Refusal>, memory: &[u8; 8], len: usize) -> Outcome {
-    let first = memory[0];
-    let expected = rising(first);
-    for i in 0..8 {
-        let wanted = if answer.is_ok() && i < len {
-            expected[i]
-        } else {
-            UNTOUCHED
-        };
-        if memory[i] != wanted {
-            return Outcome::Spoilt;
-        }
-    }
-    match answer {
-        Ok(()) => Outcome::Holds(first),
-        Err(refusal) => Outcome::Refused(refusal.number()),
-    }
-}
-
-fn done(answer: Result<(), Refusal>) -> Outcome {
-    match answer {
-        Ok(()) => Outcome::Done,
-        Err(refusal) => Outcome::Refused(refusal.number()),
-    }
-}
-
-fn is(answer: Result<u32, Refusal>) -> Outcome {
-    match answer {
-        Ok(value) => Outcome::Is(value),
-        Err(refusal) => Outcome::Refused(refusal.number()),
-    }
-}
-
-fn tag_of<C: Chip>(chip: &C, block: u16, page: u32) -> Outcome {
-    match chip.tag(block, page) {
-        Ok(tag) => Outcome::Is(u32::from(tag)),
-        Err(refusal) => Outcome::Refused(refusal.number()),
-    }
-}
-
-fn read<C: Chip>(chip: &C, block: u16, page: u32, len: usize) -> Outcome {
+/// The outcome of a call that is to fill a buffer of `len`.
+fn filled<F: FnOnce(&mut [u8]) -> Result<(), Refusal>>(len: usize, call: F) -> Outcome
+    requires { F.IsAlwaysCallable call }
+{
     let mut memory = [UNTOUCHED; 8];
-    let len = len.min(8);
-    let answer = chip.read(block, page, &mut memory[0..len]);
-    filled(answer, &memory, len)
-}
-
-fn program<C: Chip>(
-    chip: &mut C,
-    block: u16,
-    page: u32,
-    tag: u16,
-    first: u8,
-    len: usize,
-) -> Outcome {
-    let bytes = rising(first);
-    let len = len.min(8);
-    done(chip.program(block, page, tag, &bytes[0..len]))
-}
-
-fn copied<C: Chip>(chip: &mut C, block: u16, page: u32, to: u16, len: usize) -> Outcome {
-    let mut memory = [UNTOUCHED; 8];
-    let len = len.min(8);
-    let answer = copy_page(chip, block, page, to, &mut memory[0..len]);
-    filled(answer, &memory, len)
-}
-
-fn moved<C: Chip>(chip: &mut C, block: u16, to: u16, len: usize) -> Outcome {
-    let mut memory = [UNTOUCHED; 8];
-    let len = len.min(8);
-    let answer = relocate(chip, block, to, &mut memory[0..len]);
-    filled(answer, &memory, len)
+    let buf = &mut memory[..len.min(8)];
+    let answer = call(buf);
+    let first = buf.first().copied().unwrap_or(UNTOUCHED);
+    let right = match answer {
+        Ok(()) => rising(first).starts_with(buf),
+        Err(_) => buf.iter().all(|byte| *byte == UNTOUCHED),
+    };
+    if right {
+        answer.map(|()| Told::Holds(first))
+    } else {
+        Ok(Told::Spoilt)
+    }
 }
 
 fn answer_to<C: Chip>(chip: &mut C, call: Call) -> Outcome {
     match call {
-        Call::Count(block) => is(chip.count(block)),
-        Call::Written(block) => is(chip.written(block)),
-        Call::Tag(block, page) => tag_of(chip, block, page),
-        Call::Read(block, page, len) => read(chip, block, page, len),
-        Call::Program(block, page, tag, first, len) => program(chip, block, page, tag, first, len),
-        Call::Erase(block) => done(chip.erase(block)),
-        Call::Copy(block, page, to, len) => copied(chip, block, page, to, len),
-        Call::Move(block, to, len) => moved(chip, block, to, len),
+        Call::Count(block) => chip.count(block).map(Told::Is),
+        Call::Written(block) => chip.written(block).map(Told::Is),
+        Call::Tag(block, page) => chip.tag(block, page).map(|tag| Told::Is(u32::from(tag))),
+        Call::Read(block, page, len) => filled(len, |buf| chip.read(block, page, buf)),
+        Call::Program(block, page, tag, first, len) => {
+            let bytes = rising(first);
+            let answer = chip.program(block, page, tag, &bytes[..len.min(8)]);
+            answer.map(|()| Told::Done)
+        }
+        Call::Erase(block) => chip.erase(block).map(|()| Told::Done),
+        Call::Copy(block, page, to, len) => {
+            filled(len, |buf| copy_page(chip, block, page, to, buf))
+        }
+        Call::Move(block, to, len) => filled(len, |buf| relocate(chip, block, to, buf)),
     }
 }
 
 /// Makes the calls of a table in turn, and compares what comes of each.
 pub fn run<C: Chip>(rt: &impl Abort, chip: &mut C, table: &[(Call, Outcome)]) {
-    for row in table {
-        assert_eq!(rt; answer_to(chip, row.0), row.1);
+    for (call, outcome) in table {
+        assert_eq!(rt; answer_to(chip, *call), *outcome);
     }
 }
