@@ -222,43 +222,45 @@ fn moves(rt: HostRuntime) {
     on_a_chip(&rt, &table, 6, 24);
 }
 
+/// Two blocks of two pages of two bytes, rated for nine erases.
+const SMALL: Geometry = Geometry {
+    blocks: 2,
+    pages: 2,
+    size: 2,
+    rated: 9,
+};
+
 /// N, P, D and E of a chip that has memory enough.
-fn made(blocks: u16, pages: u32, size: usize, rated: u32) -> Geometry {
+fn made(geometry: Geometry) -> Geometry {
     let mut tags = [0u16; 600];
     let mut bytes = [0u8; 2100];
-    Emulated::new(
-        Geometry {
-            blocks,
-            pages,
-            size,
-            rated,
-        },
-        &mut tags,
-        &mut bytes,
-    )
-    .geometry()
+    Emulated::new(geometry, &mut tags, &mut bytes).geometry()
 }
 
 #[test]
 fn limits_of_blocks_and_pages(rt: HostRuntime) {
-    assert_eq!(rt; made(1, 2, 2, 9), Geometry::none());
-    assert_eq!(rt; made(2, 2, 2, 9).blocks, 2);
-    assert_eq!(rt; made(256, 2, 2, 9).blocks, 256);
-    assert_eq!(rt; made(257, 2, 2, 9), Geometry::none());
-    assert_eq!(rt; made(2, 0, 2, 9), Geometry::none());
-    assert_eq!(rt; made(2, 1, 2, 9).pages, 1);
-    assert_eq!(rt; made(2, 64, 2, 9).pages, 64);
-    assert_eq!(rt; made(2, 65, 2, 9), Geometry::none());
+    let of_blocks = |blocks| made(Geometry { blocks, ..SMALL });
+    assert_eq!(rt; of_blocks(1), Geometry::none());
+    assert_eq!(rt; of_blocks(2).blocks, 2);
+    assert_eq!(rt; of_blocks(256).blocks, 256);
+    assert_eq!(rt; of_blocks(257), Geometry::none());
+    let of_pages = |pages| made(Geometry { pages, ..SMALL });
+    assert_eq!(rt; of_pages(0), Geometry::none());
+    assert_eq!(rt; of_pages(1).pages, 1);
+    assert_eq!(rt; of_pages(64).pages, 64);
+    assert_eq!(rt; of_pages(65), Geometry::none());
 }
 
 #[test]
 fn limits_of_bytes_and_erases(rt: HostRuntime) {
-    assert_eq!(rt; made(2, 2, 0, 9), Geometry::none());
-    assert_eq!(rt; made(2, 2, 1, 9).size, 1);
-    assert_eq!(rt; made(2, 2, 512, 9).size, 512);
-    assert_eq!(rt; made(2, 2, 513, 9), Geometry::none());
-    assert_eq!(rt; made(2, 2, 2, 0), Geometry::none());
-    assert_eq!(rt; made(2, 2, 2, 1).rated, 1);
-    assert_eq!(rt; made(2, 2, 2, 1_000_000).rated, 1_000_000);
-    assert_eq!(rt; made(2, 2, 2, 1_000_001), Geometry::none());
+    let of_bytes = |size| made(Geometry { size, ..SMALL });
+    assert_eq!(rt; of_bytes(0), Geometry::none());
+    assert_eq!(rt; of_bytes(1).size, 1);
+    assert_eq!(rt; of_bytes(512).size, 512);
+    assert_eq!(rt; of_bytes(513), Geometry::none());
+    let of_erases = |rated| made(Geometry { rated, ..SMALL });
+    assert_eq!(rt; of_erases(0), Geometry::none());
+    assert_eq!(rt; of_erases(1).rated, 1);
+    assert_eq!(rt; of_erases(1_000_000).rated, 1_000_000);
+    assert_eq!(rt; of_erases(1_000_001), Geometry::none());
 }
