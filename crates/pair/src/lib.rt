@@ -21,6 +21,7 @@ pub struct Pair<A, B> {
 }
 
 /// Which of two chips has a block, and the block's number there.
+// Each call matches on it: handing a closure for either chip to one function is no shorter, and changes need a second one.
 enum Half {
     First(u16),
     Second(u16),
