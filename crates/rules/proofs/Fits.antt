@@ -1,12 +1,13 @@
 -- What the checks of start say in numbers, and pages as lists and by their places.
 use Rattle.std.proofs.Common.{◌≡◌, ℕ, zero, suc, ◌+◌, ◌-◌, ◌*◌, ◌/◌, ◌%◌, ◌<◌, ◌≤◌, Bool, true, false, ◌&&◌, ◌||◌, eqb, leb, List, [], ◌∷◌, length, get_or, sym, refl, ap, ◌∙◌, subst, mul-le-mul_right, div-add-mod', arith, pow_pos}
+use Rattle.std.specs.List.{list_any}
 use Rattle.std.specs.List.{AllByRecursion as All}
 use Rattle.std.proofs.lemmas.Bool.{and_parts, leb-true, eqb-true, eqb-false}
 use Rattle.flash.specs.Limits.{between}
 use Rattle.flash.specs.Meaning.{Flash, Block, Page, block, no_block, no_page, WellFormed as ChipFits}
 use Rattle.rules.specs.declared.Settings.{Settings}
 use Rattle.rules.specs.Tables.{set_size}
-use Rattle.rules.specs.Calls.{sets_fit, some_block, is_worn}
+use Rattle.rules.specs.Calls.{sets_fit, is_worn}
 use Rattle.rules.specs.WellFormed.{Fitting}
 use Rattle.rules.proofs.Flags.{true_is_not_false}
 
@@ -61,14 +62,14 @@ sets_whole g f h =
     omega (arith, div-add-mod' (length f.blocks) (set_size g), eqb-true (length f.blocks % set_size g) 0 p.1)
 
 -- what no block passes
-pub none_passes : (p : Block → Bool) (xs : List Block) → some_block p xs ≡ false → (b : ℕ) → b < length xs → p (get_or xs b no_block) ≡ false
+pub none_passes : (p : Block → Bool) (xs : List Block) → list_any p xs ≡ false → (b : ℕ) → b < length xs → p (get_or xs b no_block) ≡ false
 none_passes p [] h b l = absurd (omega arith)
 none_passes p (x ∷ xs) h b l = go (p x) refl b l (none_passes p xs)
   where
-    go : (v : Bool) → p x ≡ v → (b : ℕ) → b < length (x ∷ xs) → (some_block p xs ≡ false → (b : ℕ) → b < length xs → p (get_or xs b no_block) ≡ false) → p (get_or (x ∷ xs) b no_block) ≡ false
-    go true e b l rec = true_is_not_false (sym (ap (λ v. v || some_block p xs) e) ∙ h)
+    go : (v : Bool) → p x ≡ v → (b : ℕ) → b < length (x ∷ xs) → (list_any p xs ≡ false → (b : ℕ) → b < length xs → p (get_or xs b no_block) ≡ false) → p (get_or (x ∷ xs) b no_block) ≡ false
+    go true e b l rec = true_is_not_false (sym (ap (λ v. v || list_any p xs) e) ∙ h)
     go false e zero l rec = e
-    go false e (suc b) l rec = rec (sym (ap (λ v. v || some_block p xs) e) ∙ h) b (omega arith)
+    go false e (suc b) l rec = rec (sym (ap (λ v. v || list_any p xs) e) ∙ h) b (omega arith)
 
 pub not_worn : (f : Flash) → ChipFits f → is_worn f ≡ false → (b : ℕ) → b < length f.blocks → (block f b).count < f.e
 not_worn f c h b l =

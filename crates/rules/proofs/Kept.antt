@@ -1,5 +1,5 @@
 -- Every call on a sound leveller, refused or not.
-use Rattle.std.proofs.Common.{◌≡◌, ℕ, zero, suc, ◌*◌, ◌/◌, ◌<◌, ◌≤◌, Bool, true, false, not, eqb, ltb, ◌⊎◌, List, [], ◌∷◌, length, get_or, set, replicate, Some, None, Ok, Option, sym, refl, ap, ◌∙◌, subst, inl, inr, arith}
+use Rattle.std.proofs.Common.{◌≡◌, ℕ, zero, suc, ◌*◌, ◌/◌, ◌<◌, ◌≤◌, Bool, true, false, not, eqb, ltb, ◌⊎◌, List, [], ◌∷◌, length, get_or, set, replicate, is_some, Some, None, Ok, Option, sym, refl, ap, ◌∙◌, subst, inl, inr, arith}
 use Rattle.std.proofs.lemmas.List.{length-set, length-replicate, get_or_past}
 use Rattle.std.proofs.lemmas.Bool.{cases_lt, ltb-true, eqb-true}
 use Rattle.flash.specs.Limits.{within}
@@ -12,7 +12,7 @@ use Rattle.rules.specs.declared.Refusal.{Refusal}
 use Rattle.rules.specs.declared.Refusal.TheVariants.{AlreadyStarted, OutsideLimits, UnevenSets, WrongThreshold, WrongLogical, NotBlank, NotStarted, NoSuchPage, WrongLength, WornOut}
 use Rattle.rules.specs.Tables.{Tables, Leveller, Outcome, begin, left, set_size}
 use Rattle.rules.specs.Blocks.{BlockOrder}
-use Rattle.rules.specs.Calls.{refusal, refused, unless, sets_fit, threshold_fits, logical_fits, is_some, has_written, is_worn, start_checks, write_checks, read_checks, discard_checks, fresh_tables, forgotten, writing, write_done, read_at, start, write, read, discard}
+use Rattle.rules.specs.Calls.{refusal, refused, unless, sets_fit, threshold_fits, logical_fits, has_written, is_worn, start_checks, write_checks, read_checks, discard_checks, fresh_tables, forgotten, writing, write_done, read_at, start, write, read, discard}
 use Rattle.rules.specs.WellFormed.{Fitting, WellFormed, Kept, Sound}
 use Rattle.rules.specs.Obeyed.{obeyed}
 use Rattle.rules.specs.Laws.{times_erased, NewSound, CleaningGains, StartKeeps, WriteKeeps, ReadKeeps, DiscardKeeps, WriteObeyed, WriteOnce, SearchEnds, LevellingEnds}

@@ -1,6 +1,7 @@
 -- The one outcome of each call of a leveller, for all arguments: start, write, read, discard.
 -- A call tries its refusals in rising number; the first that applies is its answer, and all is as it was.
-use Rattle.std.specs.Prelude.{ℕ, ◌-◌, ◌*◌, ◌/◌, ◌%◌, Bool, true, false, not, ◌&&◌, ◌||◌, List, [], ◌∷◌, length, replicate, Some, None, Ok, Err, sum_by, Option, ◌==◌, nat_eq, nat_le, nat_lt, slice_index_or, slice_set}
+use Rattle.std.specs.Prelude.{ℕ, ◌-◌, ◌*◌, ◌/◌, ◌%◌, Bool, true, false, not, ◌&&◌, ◌||◌, List, [], ◌∷◌, length, replicate, is_some, Some, None, Ok, Err, sum_by, Option, ◌==◌, nat_eq, nat_le, nat_lt, slice_index_or, slice_set}
+use Rattle.std.specs.List.{list_any}
 use Rattle.flash.specs.Limits.{between, within}
 use Rattle.flash.specs.Meaning.{Flash, Block, Op, program, erase, page, page_of, geometry_of}
 use Rattle.rules.specs.declared.Settings.{Settings}
@@ -42,17 +43,8 @@ threshold_fits g = between 1 g.threshold 1000
 abbrev pub logical_fits : Flash → Settings → Bool
 logical_fits f g = between 1 g.logical ((length f.blocks - 1) * f.p - 1)
 
-abbrev pub is_some : {T : Type 0} → Option T → Bool
-is_some None = false
-is_some (Some x) = true
-
--- Some block passes a test.
-abbrev pub some_block : (Block → Bool) → List Block → Bool
-some_block p [] = false
-some_block p (x ∷ xs) = p x || some_block p xs
-
 abbrev pub has_written : Flash → Bool
-has_written f = some_block (λ x. not (length x.pages == 0)) f.blocks
+has_written f = list_any (λ x. not (length x.pages == 0)) f.blocks
 
 abbrev pub start_checks : Leveller → Settings → List (Bool × Refusal)
 start_checks l g =
@@ -87,7 +79,7 @@ start l g = unless (start_checks l g) l [] (record {
 -- Write
 
 abbrev pub is_worn : Flash → Bool
-is_worn f = some_block (λ x. nat_eq x.count f.e) f.blocks
+is_worn f = list_any (λ x. nat_eq x.count f.e) f.blocks
 
 abbrev pub write_checks : Settings → Flash → ℕ → List ℕ → List (Bool × Refusal)
 write_checks g f t bytes =

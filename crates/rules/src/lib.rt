@@ -49,27 +49,27 @@ pub struct Written {
 #[derive(Clone, Copy, PartialEq, Eq, Debug)]
 pub enum Refusal {
     /// A start of a leveller that is started.
-    AlreadyStarted,
+    AlreadyStarted = 1,
     /// The chip has more or fewer blocks, pages, bytes or rated erases than are served.
-    OutsideLimits,
+    OutsideLimits = 2,
     /// 2^k is too large for a block set, or the block sets do not make up the chip.
-    UnevenSets,
+    UnevenSets = 3,
     /// T is 0 or too large.
-    WrongThreshold,
+    WrongThreshold = 4,
     /// L is 0, or the chip has too little room for that many logical pages.
-    WrongLogical,
+    WrongLogical = 5,
     /// The chip has a written page.
-    NotBlank,
+    NotBlank = 6,
     /// A call of a leveller that is not started.
-    NotStarted,
+    NotStarted = 7,
     /// The page is not below L.
-    NoSuchPage,
+    NoSuchPage = 8,
     /// The bytes or the buffer are not D long.
-    WrongLength,
+    WrongLength = 9,
     /// A write while some block was erased as often as it is rated for.
-    WornOut,
+    WornOut = 10,
     /// A read or discard of a page that holds nothing.
-    Empty,
+    Empty = 11,
 }
 
 impl Refusal {
@@ -77,18 +77,6 @@ impl Refusal {
     pub fn number(self) -> u8
         ensures { result ≡ number_of self }
     {
-        match self {
-            Refusal::AlreadyStarted => 1,
-            Refusal::OutsideLimits => 2,
-            Refusal::UnevenSets => 3,
-            Refusal::WrongThreshold => 4,
-            Refusal::WrongLogical => 5,
-            Refusal::NotBlank => 6,
-            Refusal::NotStarted => 7,
-            Refusal::NoSuchPage => 8,
-            Refusal::WrongLength => 9,
-            Refusal::WornOut => 10,
-            Refusal::Empty => 11,
-        }
+        self as u8
     }
 }
