@@ -1,11 +1,11 @@
 -- No block is erased twice in one write.
-use Rattle.std.proofs.Common.{◌≡◌, ℕ, zero, suc, ◌*◌, ◌/◌, ◌<◌, ◌≤◌, Bool, true, false, eqb, ◌⊎◌, List, [], ◌∷◌, map, length, get_or, Some, None, Option, sym, refl, ap, ◌∙◌, subst, inl, inr, mul-le-mul_right, div-lt_iff_lt-mul, le-div_iff_mul-le, arith}
+use Rattle.std.proofs.Common.{◌≡◌, ℕ, zero, suc, ◌*◌, ◌/◌, ◌<◌, ◌≤◌, Bool, true, false, eqb, ◌⊎◌, List, [], ◌∷◌, map, length, get_or, slice_get, Some, None, Option, sym, refl, ap, ◌∙◌, subst, inl, inr, mul-le-mul_right, div-lt_iff_lt-mul, le-div_iff_mul-le, arith}
 use Rattle.orders.specs.declared.block.BlockRecord.{BlockRecord}
 use Rattle.flash.specs.Meaning.{Page}
 use Rattle.rules.specs.declared.Settings.{Settings}
 use Rattle.rules.specs.declared.Use.TheVariants.{Free, Open, Closed}
 use Rattle.rules.specs.Tables.{State, set_size}
-use Rattle.rules.specs.Blocks.{BlockOrder, blocks_in, record_of, first, first_free, head_of}
+use Rattle.rules.specs.Blocks.{BlockOrder, blocks_in, record_of, first, first_free}
 use Rattle.rules.specs.Steps.{use_block, program_page, move, clean, close_open, open_first, open_next, has_room, make_room, store}
 use Rattle.rules.specs.Levelling.{sought, turn_to, end_round, even, collect_next, level_in}
 use Rattle.rules.specs.WellFormed.{busy}
@@ -79,7 +79,7 @@ module _ (g : Settings) (n m w : ℕ) (wide : set_size g ≡ suc w) (fits : n �
   unfolding close_open use_block
   close_counted s x = go (blocks_in Open s)
     where
-      go : (bs : List ℕ) → counted (elim (head_of bs) [ None ↦ s | Some b ↦ use_block b Closed s ]) x ≡ counted s x
+      go : (bs : List ℕ) → counted (elim (slice_get bs 0) [ None ↦ s | Some b ↦ use_block b Closed s ]) x ≡ counted s x
       go [] = refl
       go (b ∷ _) = refl
 
@@ -120,7 +120,7 @@ module _ (g : Settings) (n m w : ℕ) (wide : set_size g ≡ suc w) (fits : n �
       go₁ b x (inl h) = inl (program_counted b q s x ∙ h)
       go₁ b x (inr h) = inr (program_counted b q s x ∙ h.0, unfold program_page in h.1)
 
-      go : (bs : List ℕ) → Once g was (elim (head_of bs) [ None ↦ s | Some b ↦ program_page b q s ])
+      go : (bs : List ℕ) → Once g was (elim (slice_get bs 0) [ None ↦ s | Some b ↦ program_page b q s ])
       go [] = o
       go (b ∷ _) = λ x. go₁ b x (o x)
 

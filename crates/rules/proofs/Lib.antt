@@ -17,7 +17,6 @@ pub mod Crowds
 pub mod Picks
 pub mod Runs
 pub mod Sures
-pub mod Records
 pub mod Spaces
 pub mod Grows
 pub mod Stays

@@ -1,5 +1,5 @@
 -- A call makes room: one block is open, with what was readable kept.
-use Rattle.std.proofs.Common.{◌≡◌, ℕ, ◌<◌, ◌≤◌, Bool, true, false, ◌⊎◌, List, [], ◌∷◌, map, length, get_or, set, Some, None, Option, sym, refl, ap, ◌∙◌, subst, inl, inr, arith}
+use Rattle.std.proofs.Common.{◌≡◌, ℕ, ◌<◌, ◌≤◌, Bool, true, false, ◌⊎◌, List, [], ◌∷◌, map, length, get_or, slice_get, set, Some, None, Option, sym, refl, ap, ◌∙◌, subst, inl, inr, arith}
 use Rattle.std.specs.List.{AllByRecursion as All}
 use Rattle.std.proofs.ByRecursion.{All-map}
 use Rattle.std.proofs.lemmas.List.{length-set, get_or-set_same}
@@ -10,7 +10,7 @@ use Rattle.rules.specs.declared.Settings.{Settings}
 use Rattle.rules.specs.declared.Use.{Use}
 use Rattle.rules.specs.declared.Use.TheVariants.{Free, Open, Closed}
 use Rattle.rules.specs.Tables.{State}
-use Rattle.rules.specs.Blocks.{BlockOrder, same_use, blocks_in, record_of, first, first_free, head_of}
+use Rattle.rules.specs.Blocks.{BlockOrder, same_use, blocks_in, record_of, first, first_free}
 use Rattle.rules.specs.Steps.{use_block, erase_block, move, clean, close_open, open_first, open_next, make_room}
 use Rattle.rules.specs.Levelling.{turn_to, end_round}
 use Rattle.rules.specs.WellFormed.{busy}
@@ -64,7 +64,7 @@ pub closes_open : (s : State) → OneOpen s → NoOpen (close_open s)
 unfolding close_open use_block
 closes_open s o x = go (blocks_in Open s) (open_in s) (of_use Open s) (of_below Open s)
   where
-    go : (bs : List ℕ) → ((x : ℕ) → get_or s.uses x Free ≡ Open → In x bs) → All (λ b. get_or s.uses b Free ≡ Open) bs → All (λ b. b < length s.uses) bs → get_or (elim (head_of bs) as (λ _. State) [ None ↦ s | Some b ↦ use_block b Closed s ]).uses x Free ≡ Open → ⊥
+    go : (bs : List ℕ) → ((x : ℕ) → get_or s.uses x Free ≡ Open → In x bs) → All (λ b. get_or s.uses b Free ≡ Open) bs → All (λ b. b < length s.uses) bs → get_or (elim (slice_get bs 0) as (λ _. State) [ None ↦ s | Some b ↦ use_block b Closed s ]).uses x Free ≡ Open → ⊥
     go [] f a l h = f x h
     go (b ∷ bs) f a l h = go₁ (set_either s.uses b x Closed)
       where
@@ -150,7 +150,7 @@ module _ (g : Settings) where
   unfolding close_open
   holding_close s h = go (blocks_in Open s)
     where
-      go : (bs : List ℕ) → Holding (elim (head_of bs) [ None ↦ s | Some b ↦ use_block b Closed s ])
+      go : (bs : List ℕ) → Holding (elim (slice_get bs 0) [ None ↦ s | Some b ↦ use_block b Closed s ])
       go [] = h
       go (b ∷ _) = holding_put g b Closed s h
 
@@ -158,7 +158,7 @@ module _ (g : Settings) where
   unfolding close_open use_block
   close_long s = go (blocks_in Open s)
     where
-      go : (bs : List ℕ) → length (elim (head_of bs) as (λ _. State) [ None ↦ s | Some b ↦ use_block b Closed s ]).uses ≡ length s.uses
+      go : (bs : List ℕ) → length (elim (slice_get bs 0) as (λ _. State) [ None ↦ s | Some b ↦ use_block b Closed s ]).uses ≡ length s.uses
       go [] = refl
       go (b ∷ _) = length-set s.uses b Closed
 
@@ -171,6 +171,6 @@ module _ (g : Settings) where
       go₁ false ho n = n
 
       go : (bs : List ℕ) → All (λ b. get_or s.uses b Free ≡ Open) bs → All (λ b. b < length s.uses) bs → Opened (open_next g r (blocks_in Free (close_open s)) (close_open s))
-          → Opened (elim (elim (head_of bs) as (λ _. Bool) [ None ↦ false | Some b ↦ lib.Dec.ltb (length (held s b).pages) s.chip.p ]) [ true ↦ s | false ↦ open_next g r (blocks_in Free (close_open s)) (close_open s) ])
+          → Opened (elim (elim (slice_get bs 0) as (λ _. Bool) [ None ↦ false | Some b ↦ lib.Dec.ltb (length (held s b).pages) s.chip.p ]) [ true ↦ s | false ↦ open_next g r (blocks_in Free (close_open s)) (close_open s) ])
       go [] a l n = n
       go (b ∷ bs) a l n = go₁ _ (b, l.0, a.0) n

@@ -1,5 +1,5 @@
 -- A cleaning takes a block that is not all live, so that the open block has room for the page to write.
-use Rattle.std.proofs.Common.{◌≡◌, ℕ, suc, ◌+◌, ◌-◌, ◌*◌, ◌<◌, ◌≤◌, Bool, true, false, not, ltb, ◌⊎◌, List, [], ◌∷◌, map, length, get_or, set, Some, None, Option, sym, refl, ap, ◌∙◌, subst, inl, inr, arith}
+use Rattle.std.proofs.Common.{◌≡◌, ℕ, suc, ◌+◌, ◌-◌, ◌*◌, ◌<◌, ◌≤◌, Bool, true, false, not, ltb, ◌⊎◌, List, [], ◌∷◌, map, length, get_or, slice_get, set, Some, None, Option, sym, refl, ap, ◌∙◌, subst, inl, inr, arith}
 use Rattle.std.specs.List.{AllByRecursion as All}
 use Rattle.std.proofs.lemmas.List.{length-set}
 use Rattle.std.proofs.lemmas.Bool.{cases_eq, cases_lt, ltb-true}
@@ -10,7 +10,7 @@ use Rattle.rules.specs.declared.Settings.{Settings}
 use Rattle.rules.specs.declared.Use.{Use}
 use Rattle.rules.specs.declared.Use.TheVariants.{Free, Open, Closed}
 use Rattle.rules.specs.Tables.{State}
-use Rattle.rules.specs.Blocks.{BlockOrder, same_use, blocks_in, live_pages, record_of, records, first, first_free, head_of}
+use Rattle.rules.specs.Blocks.{BlockOrder, same_use, blocks_in, live_pages, record_of, records, first, first_free}
 use Rattle.rules.specs.Steps.{use_block, program_page, move, clean, close_open, open_first, open_next, make_room, store}
 use Rattle.rules.specs.Levelling.{level_in}
 use Rattle.rules.specs.WellFormed.{busy}
@@ -26,7 +26,6 @@ use Rattle.rules.proofs.Opened.{moved_open, NoOpen, closed_of, closes_open}
 use Rattle.rules.proofs.Crowds.{crowd, sums_but}
 use Rattle.rules.proofs.Picks.{Leader, leads}
 use Rattle.rules.proofs.Runs.{runs_p}
-use Rattle.rules.proofs.Records.{at_most_is}
 use Rattle.rules.proofs.Sures.{Long, Sure, live_short, fill_one, sure_move, sure_settled}
 
 all_in : (P : ℕ → Type 0) (xs : List ℕ) (x : ℕ) → All P xs → In x xs → P x
@@ -49,7 +48,7 @@ pub close_sure : (n p d : ℕ) (was : Flash) (s : State) → Sure n p d was s �
 unfolding close_open
 close_sure n p d was s h = go (blocks_in Open s)
   where
-    go : (bs : List ℕ) → Sure n p d was (elim (head_of bs) [ None ↦ s | Some b ↦ use_block b Closed s ])
+    go : (bs : List ℕ) → Sure n p d was (elim (slice_get bs 0) [ None ↦ s | Some b ↦ use_block b Closed s ])
     go [] = h
     go (b ∷ _) = sure_put n p d was b Closed s refl h
 
@@ -57,7 +56,7 @@ pub close_places : (s : State) → length (close_open s).places ≡ length s.pla
 unfolding close_open use_block
 close_places s = go (blocks_in Open s)
   where
-    go : (bs : List ℕ) → length (elim (head_of bs) as (λ _. State) [ None ↦ s | Some b ↦ use_block b Closed s ]).places ≡ length s.places
+    go : (bs : List ℕ) → length (elim (slice_get bs 0) as (λ _. State) [ None ↦ s | Some b ↦ use_block b Closed s ]).places ≡ length s.places
     go [] = refl
     go (b ∷ _) = refl
 
@@ -70,11 +69,11 @@ module _ (g : Settings) (n p d l : ℕ) (was : Flash) (page : 1 ≤ p) (page_few
 
   -- nothing is cut off a record's P
   record_pages : (s : State) (b : ℕ) → Sure n p d was s → (record_of s b).pages ≡ p
-  record_pages s b h = ap suc (at_most_is 63 (s.chip.p - 1) (omega (arith, p_of s h))) ∙ omega (arith, p_of s h)
+  record_pages s b h = omega (arith, p_of s h)
 
   -- nor off its v
   record_live : (s : State) (b : ℕ) → Sure n p d was s → (record_of s b).live ≡ length (live_pages s b)
-  record_live s b h = at_most_is (record_of s b).pages (length (live_pages s b)) (omega (arith, record_pages s b h, live_short s b, (h.good b).0))
+  record_live s b h = omega (arith, record_pages s b h, live_short s b, (h.good b).0)
 
   -- where all blocks but f are closed, the victim has a page that is not live
   victim : (f : ℕ) (s : State) → Sure n p d was s → length s.places ≡ l → ((x : ℕ) → x < n → (x ≡ f → ⊥) → get_or s.uses x Free ≡ Closed)
@@ -181,7 +180,7 @@ module _ (g : Settings) (n p d l : ℕ) (was : Flash) (page : 1 ≤ p) (page_few
       go₁ b hb false e k = k
 
       go : (bs : List ℕ) → All (λ b. get_or s.uses b Free ≡ Open) bs → Spared n p d was (open_next g r (blocks_in Free (close_open s)) (close_open s))
-          → Spared n p d was (elim (elim (head_of bs) as (λ _. Bool) [ None ↦ false | Some b ↦ ltb (length (held s b).pages) s.chip.p ]) [ true ↦ s | false ↦ open_next g r (blocks_in Free (close_open s)) (close_open s) ])
+          → Spared n p d was (elim (elim (slice_get bs 0) as (λ _. Bool) [ None ↦ false | Some b ↦ ltb (length (held s b).pages) s.chip.p ]) [ true ↦ s | false ↦ open_next g r (blocks_in Free (close_open s)) (close_open s) ])
       go [] a k = k
       go (b ∷ bs) a k = go₁ b a.0 (ltb (length (held s b).pages) s.chip.p) refl k
 
@@ -189,7 +188,7 @@ module _ (g : Settings) (n p d l : ℕ) (was : Flash) (page : 1 ≤ p) (page_few
   unfolding store
   store_sure q s lq h = go (blocks_in Open s) (of_use Open s) (of_below Open s)
     where
-      go : (bs : List ℕ) → All (λ b. get_or s.uses b Free ≡ Open) bs → All (λ b. b < length s.uses) bs → Sure n p d was (elim (head_of bs) [ None ↦ s | Some b ↦ program_page b q s ])
+      go : (bs : List ℕ) → All (λ b. get_or s.uses b Free ≡ Open) bs → All (λ b. b < length s.uses) bs → Sure n p d was (elim (slice_get bs 0) [ None ↦ s | Some b ↦ program_page b q s ])
       go [] a lb = h.0
       go (b ∷ bs) a lb =
           let f = fill_one n p d was b q s (omega (arith, lb.0, h.0.tables)) h.0.chips h.0.good h.0.runs lq (h.1 b a.0) in

@@ -1,12 +1,12 @@
 -- What every erase, program and change of use keeps, a call keeps up to its levelling.
-use Rattle.std.proofs.Common.{◌≡◌, ℕ, Bool, true, false, List, [], ◌∷◌, map, get_or, Some, None, Option, refl, ap, ◌∙◌}
+use Rattle.std.proofs.Common.{◌≡◌, ℕ, Bool, true, false, List, [], ◌∷◌, map, get_or, slice_get, Some, None, Option, refl, ap, ◌∙◌}
 use Rattle.orders.specs.declared.block.BlockRecord.{BlockRecord}
 use Rattle.flash.specs.Meaning.{Page}
 use Rattle.rules.specs.declared.Settings.{Settings}
 use Rattle.rules.specs.declared.Use.{Use}
 use Rattle.rules.specs.declared.Use.TheVariants.{Free, Open, Closed}
 use Rattle.rules.specs.Tables.{State}
-use Rattle.rules.specs.Blocks.{BlockOrder, blocks_in, live_pages, record_of, first, first_free, head_of}
+use Rattle.rules.specs.Blocks.{BlockOrder, blocks_in, live_pages, record_of, first, first_free}
 use Rattle.rules.specs.Steps.{use_block, program_page, erase_block, copy, move, clean, close_open, open_first, open_next, has_room, make_room, store}
 use Rattle.rules.specs.Levelling.{clear_out, collect_block, collect}
 use Rattle.rules.specs.WellFormed.{busy}
@@ -43,7 +43,7 @@ module _ (g : Settings) (Q : State → Type 0) (st : Stable g Q) where
   unfolding close_open
   keeps_close s h = go (blocks_in Open s)
     where
-      go : (bs : List ℕ) → Q (elim (head_of bs) [ None ↦ s | Some b ↦ use_block b Closed s ])
+      go : (bs : List ℕ) → Q (elim (slice_get bs 0) [ None ↦ s | Some b ↦ use_block b Closed s ])
       go [] = h
       go (b ∷ bs) = st.by_put b Closed s refl h
 
@@ -73,7 +73,7 @@ module _ (g : Settings) (Q : State → Type 0) (st : Stable g Q) where
   unfolding store
   keeps_store q s h = go (blocks_in Open s)
     where
-      go : (bs : List ℕ) → Q (elim (head_of bs) [ None ↦ s | Some b ↦ program_page b q s ])
+      go : (bs : List ℕ) → Q (elim (slice_get bs 0) [ None ↦ s | Some b ↦ program_page b q s ])
       go [] = h
       go (b ∷ bs) = st.by_program b q s h
 

@@ -1,12 +1,12 @@
 -- A write up to its levelling, and with it: one block at most is open, and the map names written pages.
-use Rattle.std.proofs.Common.{◌≡◌, ℕ, suc, ◌*◌, ◌<◌, ◌≤◌, Bool, true, false, eqb, ◌⊎◌, List, [], ◌∷◌, length, get_or, Some, None, sym, ap, ◌∙◌, subst, inl, inr, arith}
+use Rattle.std.proofs.Common.{◌≡◌, ℕ, suc, ◌*◌, ◌<◌, ◌≤◌, Bool, true, false, eqb, ◌⊎◌, List, [], ◌∷◌, length, get_or, slice_get, Some, None, sym, ap, ◌∙◌, subst, inl, inr, arith}
 use Rattle.std.specs.List.{AllByRecursion as All}
 use Rattle.std.proofs.lemmas.List.{get_or-set_same}
 use Rattle.flash.specs.Meaning.{Page}
 use Rattle.rules.specs.declared.Settings.{Settings}
 use Rattle.rules.specs.declared.Use.TheVariants.{Open}
 use Rattle.rules.specs.Tables.{Meter, State, set_size}
-use Rattle.rules.specs.Blocks.{BlockOrder, blocks_in, head_of}
+use Rattle.rules.specs.Blocks.{BlockOrder, blocks_in}
 use Rattle.rules.specs.Steps.{program_page, count_erase, make_room, store}
 use Rattle.rules.specs.Levelling.{even, end_round, collect_next, level_in}
 use Rattle.rules.proofs.Words.{Ready, Between}
@@ -24,7 +24,7 @@ unfolding store
 stored q s tl op = go (blocks_in Open s) (open_in s op.has.0 op.has.2) (of_below Open s)
   where
     go : (os : List ℕ) → In op.has.0 os → All (λ b. b < length s.uses) os
-        → OneOpen (elim (head_of os) [ None ↦ s | Some b ↦ program_page b q s ]) × Holding (elim (head_of os) [ None ↦ s | Some b ↦ program_page b q s ])
+        → OneOpen (elim (slice_get os 0) [ None ↦ s | Some b ↦ program_page b q s ]) × Holding (elim (slice_get os 0) [ None ↦ s | Some b ↦ program_page b q s ])
     go [] i a = absurd i
     go (b ∷ _) i a =
         let ic : b < length s.chip.blocks = omega (arith, a.0, op.holding.long) in (

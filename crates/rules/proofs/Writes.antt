@@ -1,5 +1,5 @@
 -- The steps of a write before its levelling keep what a started leveller keeps.
-use Rattle.std.proofs.Common.{◌≡◌, ℕ, zero, suc, ◌+◌, ◌*◌, ◌/◌, ◌<◌, ◌≤◌, Bool, true, false, ◌⊎◌, List, [], ◌∷◌, map, length, get_or, set, Some, None, Option, sym, refl, ap, ◌∙◌, subst, inl, inr, arith}
+use Rattle.std.proofs.Common.{◌≡◌, ℕ, zero, suc, ◌+◌, ◌*◌, ◌/◌, ◌<◌, ◌≤◌, Bool, true, false, ◌⊎◌, List, [], ◌∷◌, map, length, get_or, slice_get, set, Some, None, Option, sym, refl, ap, ◌∙◌, subst, inl, inr, arith}
 use Rattle.std.specs.List.{range_with_len, AllByRecursion as All}
 use Rattle.std.proofs.lemmas.List.{length-set, get_or-set_same, get_or-set_other}
 use Rattle.std.proofs.ByRecursion.{all_kept_by, All-weaker}
@@ -10,7 +10,7 @@ use Rattle.rules.specs.declared.Settings.{Settings}
 use Rattle.rules.specs.declared.Use.{Use}
 use Rattle.rules.specs.declared.Use.TheVariants.{Free, Open, Closed}
 use Rattle.rules.specs.Tables.{Meter, State, set_size}
-use Rattle.rules.specs.Blocks.{BlockOrder, same_use, blocks_in, record_of, first, first_free, head_of}
+use Rattle.rules.specs.Blocks.{BlockOrder, same_use, blocks_in, record_of, first, first_free}
 use Rattle.rules.specs.Steps.{use_block, program_page, count_erase, erase_block, move, clean, close_open, open_first, open_next, has_room, make_room, store}
 use Rattle.rules.specs.WellFormed.{ones, busy}
 use Rattle.rules.proofs.Words.{Busy, SomeFree, Sized, Ready}
@@ -65,7 +65,7 @@ module _ (g : Settings) (n m : ℕ) (wide : 0 < set_size g) (fits : n ≡ m * se
   unfolding close_open
   closes s rd = go (blocks_in Open s) (of_use Open s)
     where
-      go : (bs : List ℕ) → All (λ b. get_or s.uses b Free ≡ Open) bs → Like g n m s (elim (head_of bs) [ None ↦ s | Some b ↦ use_block b Closed s ])
+      go : (bs : List ℕ) → All (λ b. get_or s.uses b Free ≡ Open) bs → Like g n m s (elim (slice_get bs 0) [ None ↦ s | Some b ↦ use_block b Closed s ])
       go [] h = (rd, refl)
       go (b ∷ bs) h =
           let f = rd.some in
@@ -162,7 +162,7 @@ module _ (g : Settings) (n m : ℕ) (wide : 0 < set_size g) (fits : n ≡ m * se
   unfolding store program_page
   stores q s rd = go (blocks_in Open s)
     where
-      go : (bs : List ℕ) → Like g n m s (elim (head_of bs) [ None ↦ s | Some b ↦ program_page b q s ])
+      go : (bs : List ℕ) → Like g n m s (elim (slice_get bs 0) [ None ↦ s | Some b ↦ program_page b q s ])
       go [] = (rd, refl)
       go (b ∷ bs) = (
         record {

@@ -4,10 +4,9 @@
 --   live_pages  the live pages of a block, in rising page order; v is their number
 --   record_of   a block's record, as orders take it: number, erase count, v, P and age
 --   first       the first of some records in an order
-use Rattle.std.specs.Prelude.{◌≡◌, ℕ, suc, ◌-◌, ◌≤◌, Bool, true, false, cond, ◌&&◌, List, [], ◌∷◌, map, length, Some, None, filter, Option, ◌==◌, nat_le, slice_index, slice_index_or, refl}
+use Rattle.std.specs.Prelude.{ℕ, suc, ◌-◌, min, Bool, true, false, cond, ◌&&◌, List, [], ◌∷◌, map, length, Some, None, filter, Option, ◌==◌, slice_get, slice_index, slice_index_or}
 use Rattle.std.proofs.Common.{arith}
 use Rattle.std.specs.List.{range_with_len}
-use Rattle.std.proofs.lemmas.Bool.{leb-true}
 use Rattle.orders.specs.declared.block.BlockRecord.{BlockRecord}
 use Rattle.orders.specs.Ranks.{least_erased}
 use Rattle.flash.specs.Meaning.{Page, block}
@@ -53,31 +52,20 @@ live_from m b i (q ∷ qs) = let rest = live_from m b (suc i) qs in cond (names 
 abbrev pub live_pages : State → ℕ → List Page
 live_pages s b = live_from s.places b 0 (block s.chip b).pages
 
--- x, or the largest number allowed.
-abbrev pub at_most : ℕ → ℕ → ℕ
-at_most high x = cond (nat_le x high) x high
-
-pub at_most_holds : (high x : ℕ) → at_most high x ≤ high
-at_most_holds high x = go (nat_le x high) refl
-  where
-    go : (t : Bool) → nat_le x high ≡ t → cond t x high ≤ high
-    go true e = leb-true x high e
-    go false e = omega arith
-
 -- A record always has P from 1 to 64 and v at most P. On a chip that is served P is from 1 to 64, and a block has
 -- at most P live pages: there nothing is cut off, and these are P and v.
 abbrev pub record_of : State → ℕ → BlockRecord
 record_of s b =
-    let p = suc (at_most 63 (s.chip.p - 1)) in
+    let p = suc (min 63 (s.chip.p - 1)) in
     record {
       number = b;
       erases = (block s.chip b).count;
-      live = at_most p (length (live_pages s b));
+      live = min p (length (live_pages s b));
       pages = p;
       age = suc (s.meter.rounds - slice_index s.marks b);
-      live_few = at_most_holds p (length (live_pages s b));
+      live_few = omega arith;
       pages_some = omega arith;
-      pages_few = let h = at_most_holds 63 (s.chip.p - 1) in omega arith;
+      pages_few = omega arith;
       age_some = omega arith;
     }
 
@@ -98,9 +86,5 @@ abbrev pub first_free : State → Option BlockRecord
 first_free s = first least_erased (records Free s)
 
 -- The open block; there is at most one.
-abbrev pub head_of : List ℕ → Option ℕ
-head_of [] = None
-head_of (b ∷ bs) = Some b
-
 abbrev pub open_block : State → Option ℕ
-open_block s = head_of (blocks_in Open s)
+open_block s = slice_get (blocks_in Open s) 0
