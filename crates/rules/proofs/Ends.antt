@@ -1,11 +1,12 @@
 -- Levelling ends, with the counters as they are between calls, and no more turns would change what it gives.
 use Rattle.std.proofs.Common.{◌≡◌, ℕ, zero, suc, ◌+◌, ◌*◌, ◌<◌, ◌≤◌, Bool, true, false, eqb, length, sym, refl, subst, inl, inr, arith}
+use Rattle.std.proofs.lemmas.List.Sums.{count_by-le-length}
 use Rattle.std.proofs.lemmas.Bool.Decides.{nat_tests}
 use Rattle.rules.specs.declared.Settings.{Settings}
 use Rattle.rules.specs.Tables.{State, set_size}
 use Rattle.rules.specs.Levelling.{even, end_round, collect_next, level_in}
 use Rattle.rules.proofs.Words.{Ready, Between}
-use Rattle.rules.proofs.Flags.{ones_le, true_is_not_false}
+use Rattle.rules.proofs.Flags.{true_is_not_false}
 use Rattle.rules.proofs.Levels.{even_true, collects, round_ready}
 
 pub not_full : (a b : ℕ) → eqb a b ≡ false → a ≤ b → a < b
@@ -24,11 +25,11 @@ module _ (g : Settings) (n m : ℕ) (wide : 0 < set_size g) (fits : n ≡ m * se
     pub between : Between g t
 
   pub less_of : (s : State) → Ready g n m s → eqb s.meter.fcnt (length s.meter.flags) ≡ false → s.meter.fcnt < m
-  less_of s rd e = subst (λ v. s.meter.fcnt < v) rd.sized.flagged (not_full _ _ e (subst (λ v. v ≤ length s.meter.flags) rd.marked (ones_le s.meter.flags)))
+  less_of s rd e = subst (λ v. s.meter.fcnt < v) rd.sized.flagged (not_full _ _ e (subst (λ v. v ≤ length s.meter.flags) rd.marked (count_by-le-length (λ v. v) s.meter.flags)))
 
   pub levels : (f : ℕ) (s : State) → Ready g n m s → 1 ≤ s.meter.fcnt → m < f + s.meter.fcnt → Levelled (level_in f g s)
   unfolding level_in
-  levels zero s rd pos fuel = absurd (omega (arith, ones_le s.meter.flags, rd.marked, rd.sized.flagged))
+  levels zero s rd pos fuel = absurd (omega (arith, count_by-le-length (λ v. v) s.meter.flags, rd.marked, rd.sized.flagged))
   levels (suc f) s rd pos fuel = go (levels f (collect_next g s)) (even g s.meter) refl (eqb s.meter.fcnt (length s.meter.flags)) refl
     where
       go : (Ready g n m (collect_next g s) → 1 ≤ (collect_next g s).meter.fcnt → m < f + (collect_next g s).meter.fcnt → Levelled (level_in f g (collect_next g s)))

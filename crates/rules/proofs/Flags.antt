@@ -1,7 +1,10 @@
 -- The flags, and the lists that are kept of numbers.
-use Rattle.std.proofs.Common.{◌≡◌, ℕ, zero, suc, ◌+◌, ◌<◌, ◌≤◌, Bool, true, false, cond, T, eqb, ◌⊎◌, List, [], ◌∷◌, length, get_or, set, filter, sym, refl, ap, ◌∙◌, subst, inl, inr, arith}
+use Rattle.std.proofs.Common.{◌≡◌, ℕ, zero, suc, ◌+◌, ◌<◌, ◌≤◌, Bool, true, false, cond, T, eqb, ◌⊎◌, List, [], ◌∷◌, length, get_or, set, replicate, filter, sym, refl, ap, ◌∙◌, subst, inl, inr, arith}
 use Rattle.std.specs.List.{range_with_len}
 use Rattle.std.proofs.lemmas.Bool.{cases_eq, cases_lt, eqb-true, eqb-false}
+use Rattle.std.proofs.lemmas.List.{get_or_default}
+use Rattle.std.proofs.lemmas.List.Sums.{sum_by-cons, sum_by-set, get_or-le-sum_by}
+use Rattle.std.proofs.lemmas.List.Folds.{sum_by-replicate}
 use Rattle.rules.specs.Levelling.{next, seek}
 use Rattle.rules.specs.WellFormed.{ones}
 
@@ -25,31 +28,29 @@ kept_some p a (suc n) x l u h e = go (kept_some p (a + 1) n x) (cases_eq a x) (p
     go rest (inl c) false q = true_is_not_false (sym h ∙ sym (ap p c) ∙ q)
     go rest (inr c) false q = rest (omega arith) (omega arith) h (subst (λ v. cond v (a ∷ filter p (range_with_len (a + 1) n)) (filter p (range_with_len (a + 1) n)) ≡ []) q e)
 
-pub ones_le : (bs : List Bool) → ones bs ≤ length bs
-ones_le [] = omega arith
-ones_le (true ∷ bs) = let h = ones_le bs in omega arith
-ones_le (false ∷ bs) = let h = ones_le bs in omega arith
+abbrev count_of : Bool → ℕ
+count_of b = cond b 1 0
+
+ones_cons : (b : Bool) (bs : List Bool) → ones (b ∷ bs) ≡ count_of b + ones bs
+ones_cons b bs = sum_by-cons count_of b bs
 
 pub ones_clear : (bs : List Bool) → ones bs < length bs → (j : ℕ) × (j < length bs) × (get_or bs j true ≡ false)
 ones_clear [] h = absurd (omega arith)
-ones_clear (true ∷ bs) h = let r = ones_clear bs (omega arith) in (suc r.0, omega (arith, r.1), r.2)
+ones_clear (true ∷ bs) h = let r = ones_clear bs (omega (arith, ones_cons true bs)) in (suc r.0, omega (arith, r.1), r.2)
 ones_clear (false ∷ bs) h = (0, omega arith, refl)
 
 pub ones_set : (bs : List Bool) (i : ℕ) → i < length bs → ones (set bs i true) ≡ cond (get_or bs i true) (ones bs) (suc (ones bs))
-ones_set [] i h = absurd (omega arith)
-ones_set (true ∷ bs) zero h = refl
-ones_set (false ∷ bs) zero h = refl
-ones_set (true ∷ bs) (suc i) h = ap suc (ones_set bs i (omega arith)) ∙ go (get_or bs i true)
+ones_set bs i h = go (get_or bs i true) (sum_by-set count_of bs i true true h)
   where
-    go : (v : Bool) → suc (cond v (ones bs) (suc (ones bs))) ≡ cond v (suc (ones bs)) (suc (suc (ones bs)))
-    go true = refl
-    go false = refl
-ones_set (false ∷ bs) (suc i) h = ones_set bs i (omega arith)
+    go : (v : Bool) → ones (set bs i true) + count_of v ≡ ones bs + 1 → ones (set bs i true) ≡ cond v (ones bs) (suc (ones bs))
+    go true e = omega arith
+    go false e = omega arith
 
-pub getD_flag : (bs : List Bool) (i : ℕ) → i < length bs → get_or bs i true ≡ get_or bs i false
-getD_flag [] i h = absurd (omega arith)
-getD_flag (b ∷ bs) zero h = refl
-getD_flag (b ∷ bs) (suc i) h = getD_flag bs i (omega arith)
+pub ones_some : (bs : List Bool) (i : ℕ) → i < length bs → get_or bs i true ≡ true → 1 ≤ ones bs
+ones_some bs i h e = omega (arith, get_or-le-sum_by count_of bs i true h, ap count_of e)
+
+pub ones_none : (k : ℕ) → ones (replicate k false) ≡ 0
+ones_none k = sum_by-replicate count_of k false ∙ omega arith
 
 abbrev Found : List Bool → ℕ → Type 0
 Found fs x = (x < length fs) × (get_or fs x false ≡ false)
@@ -88,8 +89,8 @@ seek_finds (suc k) fs i j li lj e h = go (λ i' l. seek_finds k fs i' j l lj e) 
 pub seek_clear : (bs : List Bool) (i : ℕ) → i < length bs → ones bs < length bs → (seek (length bs) bs i < length bs) × (get_or bs (seek (length bs) bs i) true ≡ false)
 seek_clear bs i li h =
     let at = ones_clear bs h in
-    let f = seek_finds (length bs) bs i at.0 li at.1 (sym (getD_flag bs at.0 at.1) ∙ at.2) (go at.0 at.1 (cases_lt at.0 i)) in
-    (f.0, getD_flag bs (seek (length bs) bs i) f.0 ∙ f.1)
+    let f = seek_finds (length bs) bs i at.0 li at.1 (sym (get_or_default bs at.0 true false at.1) ∙ at.2) (go at.0 at.1 (cases_lt at.0 i)) in
+    (f.0, get_or_default bs (seek (length bs) bs i) true false f.0 ∙ f.1)
   where
     go : (j : ℕ) → j < length bs → (j < i) ⊎ (i ≤ j) → ((i ≤ j) × (j < i + length bs)) ⊎ ((j < i) × (length bs + j < i + length bs))
     go j lj (inl l) = inr (l, omega arith)

@@ -1,5 +1,7 @@
 -- No block is erased twice in one write.
 use Rattle.std.proofs.Common.{◌≡◌, ℕ, zero, suc, ◌*◌, ◌/◌, ◌<◌, ◌≤◌, Bool, true, false, eqb, ◌⊎◌, List, [], ◌∷◌, map, length, get_or, slice_get, Some, None, Option, sym, refl, ap, ◌∙◌, subst, inl, inr, mul-le-mul_right, div-lt_iff_lt-mul, le-div_iff_mul-le, arith}
+use Rattle.std.proofs.lemmas.List.{get_or_default}
+use Rattle.std.proofs.lemmas.List.Sums.{count_by-le-length}
 use Rattle.orders.specs.declared.block.BlockRecord.{BlockRecord}
 use Rattle.flash.specs.Meaning.{Page}
 use Rattle.rules.specs.declared.Settings.{Settings}
@@ -11,7 +13,7 @@ use Rattle.rules.specs.Levelling.{sought, turn_to, end_round, even, collect_next
 use Rattle.rules.specs.WellFormed.{busy}
 use Rattle.rules.proofs.Words.{counted, Ready}
 use Rattle.rules.proofs.Frame.{program_counted, first_of, recs_use, Of, busy_below}
-use Rattle.rules.proofs.Flags.{true_is_not_false, ones_le, seek_clear, getD_flag}
+use Rattle.rules.proofs.Flags.{true_is_not_false, seek_clear}
 use Rattle.rules.proofs.Levels.{set_of, collects, not_even}
 use Rattle.rules.proofs.Ends.{not_full}
 use Rattle.rules.proofs.Writes.{closes, rooms, stores}
@@ -41,7 +43,7 @@ module _ (g : Settings) (n m w : ℕ) (wide : set_size g ≡ suc w) (fits : n �
       (let l₁ : i ≤ x / set_size g = (le-div_iff_mul-le pos).1 l in
       let l₂ : x / set_size g < suc i = (div-lt_iff_lt-mul pos).1 (omega arith) in
       let e : x / set_size g ≡ i = omega arith in
-      (unhit x (ap (λ y. get_or s.meter.flags y false) e ∙ sym (getD_flag s.meter.flags i sk.0) ∙ sk.1) (o x), omega arith))) o
+      (unhit x (ap (λ y. get_or s.meter.flags y false) e ∙ sym (get_or_default s.meter.flags i true false sk.0) ∙ sk.1) (o x), omega arith))) o
     where
       unhit : (x : ℕ) → get_or s.meter.flags (x / set_size g) false ≡ false → (counted s x ≡ was x) ⊎ ((counted s x ≡ suc (was x)) × (get_or s.meter.flags (x / set_size g) false ≡ true)) → counted s x ≡ was x
       unhit x f (inl e) = e
@@ -57,7 +59,7 @@ module _ (g : Settings) (n m w : ℕ) (wide : set_size g ≡ suc w) (fits : n �
       go rec true ec d ed = at_most g was s o
       go rec false ec true ed = at_most g was s o
       go rec false ec false ed =
-          let less : s.meter.fcnt < m = subst (λ v. s.meter.fcnt < v) rd.sized.flagged (not_full _ _ ed (subst (λ v. v ≤ length s.meter.flags) rd.marked (ones_le s.meter.flags))) in
+          let less : s.meter.fcnt < m = subst (λ v. s.meter.fcnt < v) rd.sized.flagged (not_full _ _ ed (subst (λ v. v ≤ length s.meter.flags) rd.marked (count_by-le-length (λ v. v) s.meter.flags))) in
           rec (collects g n m pos fits w wide s rd (not_even g s.meter ec).0 less).ready (once_next s rd less o)
 
 module _ (g : Settings) (n m w : ℕ) (wide : set_size g ≡ suc w) (fits : n ≡ m * set_size g) where

@@ -1,5 +1,5 @@
 -- Every call on a sound leveller, refused or not.
-use Rattle.std.proofs.Common.{◌≡◌, ℕ, zero, suc, ◌*◌, ◌/◌, ◌<◌, ◌≤◌, Bool, true, false, not, eqb, ltb, ◌⊎◌, List, [], ◌∷◌, length, get_or, set, replicate, is_some, Some, None, Ok, Option, sym, refl, ap, ◌∙◌, subst, inl, inr, arith}
+use Rattle.std.proofs.Common.{◌≡◌, ℕ, zero, suc, ◌*◌, ◌/◌, ◌<◌, ◌≤◌, Bool, true, false, not, eqb, ltb, ◌⊎◌, List, [], ◌∷◌, length, get_or, set, replicate, is_some, IfSome, Some, None, Ok, Option, sym, refl, ap, ◌∙◌, subst, inl, inr, arith}
 use Rattle.std.proofs.lemmas.List.{length-set, length-replicate, get_or_past}
 use Rattle.std.proofs.lemmas.Bool.{cases_lt, ltb-true, eqb-true}
 use Rattle.flash.specs.Limits.{within}
@@ -13,11 +13,11 @@ use Rattle.rules.specs.declared.Refusal.TheVariants.{AlreadyStarted, OutsideLimi
 use Rattle.rules.specs.Tables.{Tables, Leveller, Outcome, begin, left, set_size}
 use Rattle.rules.specs.Blocks.{BlockOrder}
 use Rattle.rules.specs.Calls.{refusal, refused, unless, sets_fit, threshold_fits, logical_fits, has_written, is_worn, start_checks, write_checks, read_checks, discard_checks, fresh_tables, forgotten, writing, write_done, read_at, start, write, read, discard}
-use Rattle.rules.specs.WellFormed.{Fitting, WellFormed, Kept, Sound}
+use Rattle.rules.specs.WellFormed.{Fitting, WellFormed, Sound}
 use Rattle.rules.specs.Obeyed.{obeyed}
 use Rattle.rules.specs.Laws.{times_erased, NewSound, CleaningGains, StartKeeps, WriteKeeps, ReadKeeps, DiscardKeeps, WriteObeyed, WriteOnce, SearchEnds, LevellingEnds}
 use Rattle.rules.proofs.Flags.{seek_clear}
-use Rattle.rules.proofs.Levels.{ones_none}
+use Rattle.rules.proofs.Flags.{ones_none}
 use Rattle.rules.proofs.Settled.{free_is_open}
 use Rattle.rules.proofs.Fits.{in_numbers, sets_whole, none_passes}
 use Rattle.rules.proofs.Wrote.{wrote, ends, wrote_well, wrote_fits, wrote_obeyed, wrote_once, cleaning}
@@ -67,7 +67,7 @@ pub write_keeps : WriteKeeps
 unfolding write
 write_keeps r vo l t bytes h = go l.tables h.kept
   where
-    go : (o : Option Tables) → Kept o l.chip → Sound (left (write_by r l t bytes o))
+    go : (o : Option Tables) → IfSome o (λ x. WellFormed x l.chip) → Sound (left (write_by r l t bytes o))
     go None k = same l h
     go (Some x) k = unless_cases (λ o. Sound (left o)) (write_checks x.settings l.chip t bytes) l bytes (write_done x.settings bytes (writing x.settings r t bytes (begin x l.chip))) (λ e. same l h)
         (λ q. let a = write_accepted x.settings l.chip t bytes q in
@@ -78,7 +78,7 @@ pub write_obeyed : WriteObeyed
 unfolding write
 write_obeyed r vo l t bytes h = go l.tables h.kept
   where
-    go : (o : Option Tables) → Kept o l.chip → obeyed (write_by r l t bytes o).operations l.chip ≡ Some (write_by r l t bytes o).chip
+    go : (o : Option Tables) → IfSome o (λ x. WellFormed x l.chip) → obeyed (write_by r l t bytes o).operations l.chip ≡ Some (write_by r l t bytes o).chip
     go None k = refl
     go (Some x) k = unless_cases (λ o. obeyed o.operations l.chip ≡ Some o.chip) (write_checks x.settings l.chip t bytes) l bytes (write_done x.settings bytes (writing x.settings r t bytes (begin x l.chip))) (λ e. refl)
         (λ q. let a = write_accepted x.settings l.chip t bytes q in
@@ -88,7 +88,7 @@ pub write_once : WriteOnce
 unfolding write
 write_once r vo l t bytes h b = go l.tables h.kept
   where
-    go : (o : Option Tables) → Kept o l.chip → times_erased b (write_by r l t bytes o).operations ≤ 1
+    go : (o : Option Tables) → IfSome o (λ x. WellFormed x l.chip) → times_erased b (write_by r l t bytes o).operations ≤ 1
     go None k = omega arith
     go (Some x) k = unless_cases (λ o. times_erased b o.operations ≤ 1) (write_checks x.settings l.chip t bytes) l bytes (write_done x.settings bytes (writing x.settings r t bytes (begin x l.chip))) (λ e. omega arith)
         (λ q. let a = write_accepted x.settings l.chip t bytes q in
@@ -151,7 +151,7 @@ pub discard_keeps : DiscardKeeps
 unfolding discard
 discard_keeps l t h = go l.tables h.kept
   where
-    go : (o : Option Tables) → Kept o l.chip → Sound (left (elim o as (λ _. Outcome (Unit {0})) [
+    go : (o : Option Tables) → IfSome o (λ x. WellFormed x l.chip) → Sound (left (elim o as (λ _. Outcome (Unit {0})) [
       | None ↦ refused NotStarted l []
       | Some x ↦ unless (discard_checks x t) l [] (record { answer = Ok tt; tables = Some (forgotten t x); chip = l.chip; buffer = []; operations = [] })
     ]))

@@ -1,7 +1,7 @@
 -- Levelling ends, with the counters as they are between calls.
 use Rattle.std.proofs.Common.{◌≡◌, ℕ, zero, suc, ◌+◌, ◌*◌, ◌/◌, ◌<◌, ◌≤◌, Bool, true, false, cond, ◌⊎◌, List, [], ◌∷◌, length, get_or, set, replicate, sym, refl, ap, ◌∙◌, subst, inl, inr, mul-le-mul_right, div-lt_iff_lt-mul, le-div_iff_mul-le, arith}
 use Rattle.std.specs.List.{range_with_len}
-use Rattle.std.proofs.lemmas.List.{length-set, get_or-set_same, get_or-set_other, length-replicate}
+use Rattle.std.proofs.lemmas.List.{length-set, get_or-set_same, get_or-set_other, length-replicate, get_or_default}
 use Rattle.std.proofs.lemmas.Bool.{cases_eq}
 use Rattle.std.proofs.lemmas.Bool.Decides.{nat_tests}
 use Rattle.rules.specs.declared.Settings.{Settings}
@@ -14,7 +14,7 @@ use Rattle.rules.specs.WellFormed.{ones, busy}
 use Rattle.rules.proofs.Words.{Busy, SomeFree, Freed, Sized, Ready}
 use Rattle.rules.proofs.Frame.{busy_below}
 use Rattle.rules.proofs.Stable.{Stable, keeps_collect}
-use Rattle.rules.proofs.Flags.{ones_set, getD_flag, seek_clear, next_below, true_is_not_false}
+use Rattle.rules.proofs.Flags.{ones_set, ones_none, seek_clear, next_below, true_is_not_false}
 use Rattle.rules.proofs.Collects.{collected_new}
 
 pub set_free : (us : List Use) (d x : ℕ) (u : Use) → busy u ≡ true → get_or (set us d u) x Free ≡ Free → get_or us x Free ≡ Free
@@ -30,10 +30,6 @@ set_flag (b ∷ bs) zero zero h = refl
 set_flag (b ∷ bs) zero (suc j) h = h
 set_flag (b ∷ bs) (suc i) zero h = h
 set_flag (b ∷ bs) (suc i) (suc j) h = set_flag bs i j h
-
-pub ones_none : (k : ℕ) → ones (replicate k false) ≡ 0
-ones_none zero = refl
-ones_none (suc k) = ones_none k
 
 pub even_true : (m : Meter) (g : Settings) → 1 ≤ m.fcnt → even g m ≡ true → m.ecnt < g.threshold * m.fcnt
 even_true m g h e = grind (arith, nat_tests)
@@ -98,7 +94,7 @@ module _ (g : Settings) (n m : ℕ) (wide : 0 < set_size g) (fits : n ≡ m * se
       let im : suc i ≤ m = omega (arith, sk.0, rd.sized.flagged) in
       let xn : x < n = omega (arith, mul-le-mul_right (set_size g) im) in (
         not_busy (get_or s.uses x Free) (λ fr. true_is_not_false (
-            sym (rd.freed pos x xn fr) ∙ ap (λ y. get_or s.meter.flags y false) e ∙ sym (getD_flag s.meter.flags i sk.0) ∙ sk.1)),
+            sym (rd.freed pos x xn fr) ∙ ap (λ y. get_or s.meter.flags y false) e ∙ sym (get_or_default s.meter.flags i true false sk.0) ∙ sk.1)),
         e,
       )) in
       let c = collected_new g i w (i * set_size g) s sk.0 sk.1 in_set rd.some in

@@ -1,12 +1,14 @@
 -- The lengths of the tables, the age marks and the rounds, kept by every step.
-use Rattle.std.proofs.Common.{◌≡◌, ℕ, zero, suc, ◌+◌, ◌<◌, ◌≤◌, Bool, true, false, eqb, List, [], ◌∷◌, ◌++◌, length, get_or, set, refl, ap, ◌∙◌, mul-le-mul_right, arith}
+use Rattle.std.proofs.Common.{◌≡◌, ℕ, zero, suc, ◌+◌, ◌<◌, ◌≤◌, Bool, true, false, eqb, List, [], ◌∷◌, ◌++◌, length, get_or, set, sum, sym, refl, ap, ◌∙◌, mul-le-mul_right, arith}
 use Rattle.std.proofs.lemmas.List.{length-set}
-use Rattle.flash.specs.Meaning.{Block, no_block}
+use Rattle.std.proofs.lemmas.List.Sums.{sum_by-set, sum-map}
+use Rattle.std.proofs.Math.Seq.{map-set_same}
+use Rattle.flash.specs.Meaning.{Flash, Block, block, with_block, no_block}
 use Rattle.rules.specs.declared.Settings.{Settings}
 use Rattle.rules.specs.Tables.{State}
 use Rattle.rules.specs.Steps.{use_block, program_page, count_erase, erase_block}
 use Rattle.rules.specs.Levelling.{set_blocks, sought, turn_to, end_round, even, collect_next, level_in}
-use Rattle.rules.specs.WellFormed.{erases_in, erases_of}
+use Rattle.rules.specs.WellFormed.{erases_of}
 use Rattle.rules.proofs.Words.{held}
 use Rattle.rules.proofs.Frame.{busy_below}
 use Rattle.rules.proofs.Levels.{not_even}
@@ -32,15 +34,12 @@ set_le (m ∷ ms) zero (suc x) v high l h = h
 set_le (m ∷ ms) (suc b) zero v high l h = h
 set_le (m ∷ ms) (suc b) (suc x) v high l h = set_le ms b x v high l h
 
-total_same : (bs : List Block) (b : ℕ) (c : Block) → c.count ≡ (get_or bs b no_block).count → erases_in (set bs b c) ≡ erases_in bs
-total_same [] b c e = refl
-total_same (y ∷ ys) zero c e = ap (λ k. k + erases_in ys) e
-total_same (y ∷ ys) (suc b) c e = ap (λ k. y.count + k) (total_same ys b c e)
-
-total_more : (bs : List Block) (b : ℕ) (c : Block) → b < length bs → c.count ≡ suc (get_or bs b no_block).count → erases_in (set bs b c) ≡ suc (erases_in bs)
-total_more [] b c l e = absurd (omega arith)
-total_more (y ∷ ys) zero c l e = omega arith
-total_more (y ∷ ys) (suc b) c l e = let r = total_more ys b c (omega arith) e in omega arith
+-- a write to a block that leaves its count leaves the sum of all counts
+total_same : (f : Flash) (b : ℕ) (c : Block) → c.count ≡ (block f b).count → erases_of (with_block f b c) ≡ erases_of f
+total_same f b c e = sym (sum-map count (set f.blocks b c)) ∙ ap sum (map-set_same count f.blocks b c no_block e) ∙ sum-map count f.blocks
+  where
+    count : Block → ℕ
+    count x = x.count
 
 pub record Booked (l n : ℕ) (s : State) : Type 0 where
   pub mapped : length s.places ≡ l
@@ -59,7 +58,7 @@ module _ (g : Settings) (l n : ℕ) where
       mapped = length-set s.places q.tag _ ∙ h.mapped;
       marked = length-set s.marks b _ ∙ h.marked;
       past = λ x. set_le s.marks b x s.meter.rounds s.meter.rounds (omega arith) (h.past x);
-      paid = omega (arith, h.paid, total_same s.chip.blocks b (record { count = (held s b).count; pages = (held s b).pages ++ q ∷ [] }) refl);
+      paid = omega (arith, h.paid, total_same s.chip b (record { count = (held s b).count; pages = (held s b).pages ++ q ∷ [] }) refl);
       blocks = length-set s.chip.blocks b _ ∙ h.blocks;
       tables = h.tables;
     };
@@ -67,7 +66,7 @@ module _ (g : Settings) (l n : ℕ) where
       mapped = h.mapped;
       marked = h.marked;
       past = h.past;
-      paid = omega (arith, h.paid, total_more s.chip.blocks b (record { count = suc (held s b).count; pages = [] }) (omega (arith, busy_below s b hb, h.tables, h.blocks)) refl);
+      paid = omega (arith, h.paid, sum_by-set (λ (x : Block). x.count) s.chip.blocks b (record { count = suc (held s b).count; pages = [] }) no_block (omega (arith, busy_below s b hb, h.tables, h.blocks)));
       blocks = length-set s.chip.blocks b _ ∙ h.blocks;
       tables = length-set s.uses b _ ∙ h.tables;
     };

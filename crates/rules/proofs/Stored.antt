@@ -10,8 +10,9 @@ use Rattle.rules.specs.Blocks.{BlockOrder, blocks_in}
 use Rattle.rules.specs.Steps.{program_page, count_erase, make_room, store}
 use Rattle.rules.specs.Levelling.{even, end_round, collect_next, level_in}
 use Rattle.rules.proofs.Words.{Ready, Between}
+use Rattle.rules.proofs.Flags.{ones_some}
 use Rattle.rules.proofs.Rooms.{In}
-use Rattle.rules.proofs.Writes.{of_below, ones_some, closes, rooms, stores}
+use Rattle.rules.proofs.Writes.{of_below, closes, rooms, stores}
 use Rattle.rules.proofs.Ends.{Levelled, levels, between_even}
 use Rattle.rules.proofs.Copies.{valid_program, program_chip}
 use Rattle.rules.proofs.Steady.{Holding}

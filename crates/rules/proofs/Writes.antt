@@ -28,12 +28,6 @@ below a (suc n) = (omega arith, All-weaker _ _ (λ x h. omega arith) (range_with
 pub of_below : (u : Use) (s : State) → All (λ b. b < length s.uses) (blocks_in u s)
 of_below u s = All-weaker _ _ (λ x h. omega arith) (blocks_in u s) (all_kept_by (λ b. same_use u (get_or s.uses b Free)) (λ x. x < 0 + length s.uses) _ (below 0 (length s.uses)))
 
-pub ones_some : (bs : List Bool) (i : ℕ) → i < length bs → get_or bs i true ≡ true → 1 ≤ ones bs
-ones_some [] i h e = absurd (omega arith)
-ones_some (true ∷ bs) i h e = omega arith
-ones_some (false ∷ bs) zero h e = true_is_not_false (sym e)
-ones_some (false ∷ bs) (suc i) h e = ones_some bs i (omega arith) e
-
 abbrev pub Like : Settings → ℕ → ℕ → State → State → Type 0
 Like g n m s t = Ready g n m t × (t.meter ≡ s.meter)
 

@@ -3,7 +3,7 @@
 --   Fitting      what start has checked of the settings and the chip's size
 --   WellFormed   the facts that tie a started leveller's tables to each other and to the chip
 --   Sound        the chip keeps its bounds and the tables, if there are any, are well formed
-use Rattle.std.specs.Prelude.{◌≡◌, ℕ, suc, ◌+◌, ◌*◌, ◌/◌, ◌<◌, ◌≤◌, Bool, true, false, ◌⊎◌, List, [], ◌∷◌, length, Some, None, Option, slice_index, slice_index_or}
+use Rattle.std.specs.Prelude.{◌≡◌, ℕ, suc, ◌+◌, ◌*◌, ◌/◌, ◌<◌, ◌≤◌, Bool, true, false, ◌⊎◌, List, length, count_by, sum_by, Some, None, IfSome, slice_index, slice_index_or}
 use Rattle.flash.specs.Limits.{within}
 use Rattle.flash.specs.Meaning.{Flash, Block, block, page, geometry_of, WellFormed as ChipFits}
 use Rattle.rules.specs.declared.Settings.{Settings}
@@ -14,9 +14,7 @@ use Rattle.rules.specs.Calls.{sets_fit, threshold_fits, logical_fits}
 
 -- How many flags are set.
 abbrev pub ones : List Bool → ℕ
-ones [] = 0
-ones (true ∷ bs) = suc (ones bs)
-ones (false ∷ bs) = ones bs
+ones flags = count_by (λ flag. flag) flags
 
 -- A block in this use is not in the pool.
 abbrev pub busy : Use → Bool
@@ -25,12 +23,8 @@ busy Open = true
 busy Closed = true
 
 -- All erases of a chip's blocks together.
-abbrev pub erases_in : List Block → ℕ
-erases_in [] = 0
-erases_in (x ∷ xs) = x.count + erases_in xs
-
 abbrev pub erases_of : Flash → ℕ
-erases_of f = erases_in f.blocks
+erases_of f = sum_by (λ x. x.count) f.blocks
 
 pub record Fitting (g : Settings) (f : Flash) : Type 0 where
   pub sizes : within (geometry_of f) ≡ true
@@ -61,11 +55,6 @@ pub record WellFormed (x : Tables) (f : Flash) : Type 0 where
   pub marks_past : (b : ℕ) → slice_index x.marks b ≤ x.meter.rounds
   pub rounds_paid : x.meter.rounds + x.meter.ecnt ≤ erases_of f
 
--- What a leveller's tables, if it is started, keep.
-abbrev pub Kept : Option Tables → Flash → Type 0
-Kept None f = Unit {0}
-Kept (Some x) f = WellFormed x f
-
 pub record Sound (l : Leveller) : Type 0 where
   pub chip_fits : ChipFits l.chip
-  pub kept : Kept l.tables l.chip
+  pub kept : IfSome l.tables (λ x. WellFormed x l.chip)
