@@ -1,4 +1,6 @@
 pub mod Words
+pub mod InUse
+pub mod Choices
 pub mod Frame
 pub mod Stable
 pub mod Flags

@@ -2,8 +2,10 @@
 use Rattle.std.proofs.Common.{◌≡◌, ℕ, ◌*◌, ◌/◌, ◌<◌, ◌≤◌, true, false, ◌⊎◌, length, get_or}
 use Rattle.flash.specs.Meaning.{Block, block}
 use Rattle.rules.specs.declared.Settings.{Settings}
-use Rattle.rules.specs.declared.Use.TheVariants.{Free}
+use Rattle.rules.specs.declared.Use.{Use}
+use Rattle.rules.specs.declared.Use.TheVariants.{Free, Open}
 use Rattle.rules.specs.Tables.{State, set_size}
+use Rattle.rules.specs.Blocks.{use_of}
 use Rattle.rules.specs.WellFormed.{ones, busy}
 
 abbrev pub held : State → ℕ → Block
@@ -23,6 +25,20 @@ pub record Sized (g : Settings) (n m : ℕ) (s : State) : Type 0 where
 
 abbrev pub SomeFree : State → Type 0
 SomeFree s = (x : ℕ) × (x < length s.uses) × (get_or s.uses x Free ≡ Free)
+
+-- no block is in this use
+abbrev pub NoneIn : Use → State → Type 0
+NoneIn u s = (x : ℕ) → x < length s.uses → use_of s x ≡ u → ⊥
+
+abbrev pub NoOpen : State → Type 0
+NoOpen s = (x : ℕ) → use_of s x ≡ Open → ⊥
+
+-- at most one block is open, and at least one
+abbrev pub OneOpen : State → Type 0
+OneOpen s = (x y : ℕ) → use_of s x ≡ Open → use_of s y ≡ Open → x ≡ y
+
+abbrev pub HasOpen : State → Type 0
+HasOpen s = (x : ℕ) × (x < length s.uses) × (use_of s x ≡ Open)
 
 abbrev pub Freed : Settings → ℕ → State → Type 0
 Freed g n s = (x : ℕ) → x < n → get_or s.uses x Free ≡ Free → get_or s.meter.flags (x / set_size g) false ≡ true
