@@ -1,5 +1,5 @@
 -- What holds of each thing that a step can come to holds of what it comes to.
-use Rattle.std.proofs.Common.{◌≡◌, ℕ, zero, suc, ◌<◌, Bool, true, false, ltb, eqb, List, [], ◌∷◌, length, All, AllPairs, Contains, Some, None, Option, get_or, slice_get, ⊎_elim, subst, sym, refl, ap, ◌∙◌, arith}
+use Rattle.std.proofs.Common.{◌≡◌, ℕ, suc, ◌<◌, Bool, true, false, ltb, eqb, List, [], ◌∷◌, length, All, AllPairs, Contains, Some, None, ⊎_elim, subst, refl, ap, ◌∙◌, arith}
 use Rattle.std.proofs.lemmas.Bool.{cases_eq, ltb-true, eqb-true, eqb-false}
 use Rattle.orders.specs.declared.block.BlockRecord.{BlockRecord}
 use Rattle.orders.specs.Ranks.{least_erased}
@@ -8,12 +8,12 @@ use Rattle.rules.specs.declared.Settings.{Settings}
 use Rattle.rules.specs.declared.Use.{Use}
 use Rattle.rules.specs.declared.Use.TheVariants.{Free, Open, Closed}
 use Rattle.rules.specs.Tables.{State}
-use Rattle.rules.specs.Blocks.{BlockOrder, use_of, blocks_in, live_pages, records, first, first_free, open_block}
-use Rattle.rules.specs.Steps.{use_block, program_page, erase_block, move, clean, close_open, open_first, open_next, has_room, make_room, store}
+use Rattle.rules.specs.Blocks.{BlockOrder, use_of, blocks_in, live_pages, records, first, first_free}
+use Rattle.rules.specs.Steps.{use_block, program_page, erase_block, move, clean, close_open, open_first, open_next, make_room, store}
 use Rattle.rules.specs.Levelling.{clear_out, collect_block, end_round, even, collect_next, level_in}
 use Rattle.rules.specs.WellFormed.{busy}
 use Rattle.rules.proofs.Words.{held, NoOpen, NoneIn}
-use Rattle.rules.proofs.InUse.{in_use, has_use, free_rises, first_in, open_in}
+use Rattle.rules.proofs.InUse.{Contains-one, in_use, has_use, free_rises, first_in, open_in}
 
 module _ (P : State → Type 0) (s : State) where
   pub close_open_by : (NoOpen s → P s) → ((b : ℕ) → b < length s.uses → use_of s b ≡ Open → P (use_block b Closed s)) → P (close_open s)
@@ -37,19 +37,16 @@ module _ (P : State → Type 0) (s : State) where
     unfolding open_next open_first
     open_next_by none one more = go (blocks_in Free s) (in_use Free s) (has_use Free s) (free_rises s)
       where
-        only : (x d : ℕ) → Contains (d ∷ []) x → x ≡ d
-        only x d c = let k : c.0 ≡ 0 = omega (arith, c.1) in sym c.2 ∙ ap (λ i. get_or (d ∷ []) i x) k
-
         go : (ds : List ℕ) → All (λ b. (b < length s.uses) × (use_of s b ≡ Free)) ds → ((x : ℕ) → x < length s.uses → use_of s x ≡ Free → Contains ds x) → AllPairs (λ a b. a < b) ds → P (open_next g r ds s)
         go [] h f t = none (λ x l e. omega (arith, (f x l e).1))
-        go (d ∷ []) h f t = let a = h 0 d (omega arith) in one d a.0 a.1 (λ x l e. only x d (f x l e))
+        go (d ∷ []) h f t = let a = h 0 d (omega arith) in one d a.0 a.1 (λ x l e. Contains-one d x (f x l e))
         go (a ∷ b ∷ ds) h f t =
             let ha = h 0 a (omega arith) in
             let hb = h 1 a (omega arith) in
             let lt = t 0 1 a (omega arith) (omega arith) in
             first_in least_erased Free s (λ o. P (elim o [ None ↦ s | Some d ↦ use_block d.number Open s ])) none
             (λ d l e _. ⊎_elim (λ q. more d.number b l e hb.0 hb.1 (λ z. omega arith)) (λ q. more d.number a l e ha.0 ha.1 q) (cases_eq a d.number))
-  
+
     pub make_room_by : ((b : ℕ) → b < length s.uses → use_of s b ≡ Open → length (held s b).pages < s.chip.p → P s) → P (open_next g r (blocks_in Free (close_open s)) (close_open s)) → P (make_room g r s)
     unfolding make_room
     make_room_by room next = open_in s (λ o. P (elim (elim o as (λ _. Bool) [ None ↦ false | Some b ↦ ltb (length (held s b).pages) s.chip.p ]) [ true ↦ s | false ↦ open_next g r (blocks_in Free (close_open s)) (close_open s) ]))

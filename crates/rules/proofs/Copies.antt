@@ -1,8 +1,8 @@
 -- Copying the live pages of a block leaves none of them named there, and all named pages written.
-use Rattle.std.proofs.Common.{◌≡◌, ℕ, zero, suc, ◌+◌, ◌<◌, ◌≤◌, Bool, true, false, cond, ◌⊎◌, List, [], ◌∷◌, ◌++◌, length, get_or, Some, None, Option, sym, refl, ap, ◌∙◌, subst, inl, inr, arith}
-use lib.ListN.{get_or-append}
-use Rattle.std.proofs.lemmas.List.{length-set, get_or-set_same, get_or-set_other, length_push, get_or_push}
-use Rattle.std.proofs.lemmas.Bool.{cases_eq}
+use Rattle.std.proofs.Common.{◌≡◌, ℕ, suc, ◌+◌, ◌<◌, ◌≤◌, true, false, List, [], ◌∷◌, ◌++◌, length, get_or, Some, None, Option, ⊎_elim, sym, refl, ap, ◌∙◌, subst, arith}
+use Rattle.std.proofs.lemmas.List.{length-set, get_or-set_same, get_or-set_other, length_push, get_or_push, get_or_append_left, get_or_past}
+use Rattle.std.proofs.lemmas.Bool.{true≢false, cases_eq, cases_lt, cond_both}
+use Rattle.std.proofs.lemmas.Option.{same_Some}
 use Rattle.std.proofs.lemmas.Bool.Decides.{nat_tests}
 use Rattle.flash.specs.Meaning.{Page, Block, no_block, no_page}
 use Rattle.rules.specs.declared.Place.{Place}
@@ -10,7 +10,8 @@ use Rattle.rules.specs.Tables.{State}
 use Rattle.rules.specs.Blocks.{names, live_from, live_pages}
 use Rattle.rules.specs.Steps.{program_page, copy}
 use Rattle.rules.proofs.Words.{held}
-use Rattle.rules.proofs.Flags.{true_is_not_false}
+use Rattle.rules.proofs.AfterSet.{set_by}
+use Rattle.rules.proofs.Frame.{program_blocks}
 
 abbrev pub at : ℕ → ℕ → Place
 at b i = record { block = b; page = i }
@@ -25,23 +26,13 @@ abbrev pub Valid : State → Type 0
 Valid s = (t b i : ℕ) → Named s t b i → (i < length (held s b).pages) × ((page_at s b i).tag ≡ t)
 
 place_below : (m : List (Option Place)) (t : ℕ) (q : Place) → get_or m t None ≡ Some q → t < length m
-place_below [] t q h = absurd (subst P (sym h) tt)
-  where
-    P : Option Place → Type 0
-    P None = ⊥
-    P (Some _) = Unit {0}
-place_below (x ∷ m) zero q h = omega arith
-place_below (x ∷ m) (suc t) q h = let l = place_below m t q h in omega arith
+place_below m t q h = ⊎_elim (λ l. l) (λ l. let e = get_or_past m t None l in absurd (cc)) (cases_lt t (length m))
 
 same_place : (b i b' i' : ℕ) → ◌≡◌ {A = Option Place} (Some (at b i)) (Some (at b' i')) → (b ≡ b') × (i ≡ i')
-same_place b i b' i' e = (ap (λ o. (put o).0) e, ap (λ o. (put o).1) e)
-  where
-    put : Option Place → ℕ × ℕ
-    put None = (0, 0)
-    put (Some q) = (q.block, q.page)
+same_place b i b' i' e = let p = same_Some (at b i) (at b' i') e in (ap (λ (q : Place). q.block) p, ap (λ (q : Place). q.page) p)
 
 pub names_is : (o : Option Place) (b i : ℕ) → names o b i ≡ true → o ≡ Some (at b i)
-names_is None b i h = true_is_not_false (sym h)
+names_is None b i h = cc
 names_is (Some q) b i h =
     let e₀ : q.block ≡ b = grind (arith, nat_tests) in
     let e₁ : q.page ≡ i = grind (arith, nat_tests) in
@@ -49,9 +40,8 @@ names_is (Some q) b i h =
 
 pub names_not : (o : Option Place) (b i : ℕ) → names o b i ≡ false → o ≡ Some (at b i) → ⊥
 names_not o b i h e =
-    let z : names (Some (at b i)) b i ≡ false = ap (λ q. names q b i) (sym e) ∙ h in
-    let y : names (Some (at b i)) b i ≡ true = grind (arith, nat_tests) in
-    true_is_not_false (sym y ∙ z)
+    let own : names (Some (at b i)) b i ≡ true = grind (arith, nat_tests) in
+    true≢false (sym own ∙ ap (λ q. names q b i) (sym e) ∙ h)
 
 module _ (d : ℕ) (q : Page) (s : State) (in_chip : d < length s.chip.blocks) where
   pub pages_same : (held (program_page d q s) d).pages ≡ (held s d).pages ++ q ∷ []
@@ -63,15 +53,11 @@ module _ (d : ℕ) (q : Page) (s : State) (in_chip : d < length s.chip.blocks) w
   pages_other b h = ap (λ (c : Block). c.pages) (get_or-set_other s.chip.blocks d b _ no_block h)
 
   page_kept : (b i : ℕ) → i < length (held s b).pages → (page_at (program_page d q s) b i ≡ page_at s b i) × (i < length (held (program_page d q s) b).pages)
-  page_kept b i l = go (cases_eq b d)
-    where
-      go : (b ≡ d) ⊎ (b ≡ d → ⊥) → (page_at (program_page d q s) b i ≡ page_at s b i) × (i < length (held (program_page d q s) b).pages)
-      go (inl e) =
-          let p : (held (program_page d q s) b).pages ≡ (held s b).pages ++ q ∷ [] = ap (λ x. (held (program_page d q s) x).pages) e ∙ pages_same ∙ ap (λ x. (held s x).pages ++ q ∷ []) (sym e) in (
-            ap (λ (ps : List Page). get_or ps i no_page) p ∙ get_or-append (held s b).pages (q ∷ []) no_page i l,
-            subst (λ (ps : List Page). i < length ps) (sym p) (omega (arith, length_push (held s b).pages q)),
-          )
-      go (inr e) = (ap (λ (ps : List Page). get_or ps i no_page) (pages_other b e), subst (λ (ps : List Page). i < length ps) (sym (pages_other b e)) l)
+  unfolding program_page
+  page_kept b i l = set_by (λ (c : Block). (get_or c.pages i no_page ≡ page_at s b i) × (i < length c.pages)) s.chip.blocks d b _ no_block
+      (λ e. let l' : i < length (held s d).pages = subst (λ x. i < length (held s x).pages) e l in
+      (get_or_append_left (held s d).pages (q ∷ []) no_page i l' ∙ ap (λ x. page_at s x i) (sym e), omega (arith, length_push (held s d).pages q)))
+      (refl, l)
 
   place_same : q.tag < length s.places → Named (program_page d q s) q.tag d (length (held s d).pages)
   unfolding program_page
@@ -85,18 +71,13 @@ module _ (d : ℕ) (q : Page) (s : State) (in_chip : d < length s.chip.blocks) w
   page_new = ap (λ (ps : List Page). get_or ps (length (held s d).pages) no_page) pages_same ∙ get_or_push (held s d).pages q no_page (length (held s d).pages) refl
 
   pub valid_program : q.tag < length s.places → Valid s → Valid (program_page d q s)
-  valid_program h v t b i nm = go (cases_eq t q.tag)
-    where
-      go : (t ≡ q.tag) ⊎ (t ≡ q.tag → ⊥) → (i < length (held (program_page d q s) b).pages) × ((page_at (program_page d q s) b i).tag ≡ t)
-      go (inl e) =
-          let p = same_place d (length (held s d).pages) b i (sym (place_same h) ∙ ap (λ x. get_or (program_page d q s).places x None) (sym e) ∙ nm) in (
-            subst (λ x. i < length (held (program_page d q s) x).pages) p.0 (subst (λ (ps : List Page). i < length ps) (sym pages_same) (omega (arith, length_push (held s d).pages q, p.1))),
-            ap (λ x. (page_at (program_page d q s) x i).tag) (sym p.0) ∙ ap (λ x. (page_at (program_page d q s) d x).tag) (sym p.1) ∙ ap (λ (x : Page). x.tag) page_new ∙ sym e,
-          )
-      go (inr e) =
-          let o = v t b i (sym (place_other t e) ∙ nm) in
-          let k = page_kept b i o.0 in
-          (k.1, ap (λ (x : Page). x.tag) k.0 ∙ o.1)
+  valid_program h v t b i nm = ⊎_elim
+      (λ e. let p = same_place d (length (held s d).pages) b i (sym (place_same h) ∙ ap (λ x. get_or (program_page d q s).places x None) (sym e) ∙ nm) in (
+        subst (λ x. i < length (held (program_page d q s) x).pages) p.0 (omega (arith, ap length pages_same, length_push (held s d).pages q, p.1)),
+        ap (λ x. (page_at (program_page d q s) x i).tag) (sym p.0) ∙ ap (λ x. (page_at (program_page d q s) d x).tag) (sym p.1) ∙ ap (λ (x : Page). x.tag) page_new ∙ sym e,
+      ))
+      (λ e. let o = v t b i (sym (place_other t e) ∙ nm) in let k = page_kept b i o.0 in (k.1, ap (λ (x : Page). x.tag) k.0 ∙ o.1))
+      (cases_eq t q.tag)
 
 -- while the live pages of b are copied to d, those before page i being done: m is the map as it began
 record Copying (m : List (Option Place)) (b d : ℕ) (rest : List Page) (i : ℕ) (s : State) : Type 0 where
@@ -107,63 +88,69 @@ record Copying (m : List (Option Place)) (b d : ℕ) (rest : List Page) (i : ℕ
   left : (t k : ℕ) → Named s t b k → (i ≤ k) × (get_or m t None ≡ Some (at b k))
   valid : Valid s
 
-pub record Copied (b : ℕ) (s t : State) : Type 0 where
+pub record Copied (b : ℕ) (t : State) : Type 0 where
   pub valid : Valid t
   pub gone : (u k : ℕ) → Named t u b k → ⊥
 
-pub program_chip : (d : ℕ) (q : Page) (s : State) → (length (program_page d q s).chip.blocks ≡ length s.chip.blocks) × (length (program_page d q s).places ≡ length s.places)
+program_places : (d : ℕ) (q : Page) (s : State) → length (program_page d q s).places ≡ length s.places
 unfolding program_page
-program_chip d q s = (length-set s.chip.blocks d _, length-set s.places q.tag _)
+program_places d q s = length-set s.places q.tag _
 
-copying : (m : List (Option Place)) (b d : ℕ) → (b ≡ d → ⊥) → (rest : List Page) (i : ℕ) (s : State) → Copying m b d rest i s → Copied b s (copy d (live_from m b i rest) s)
-unfolding copy
-copying m b d ne [] i s c = record { valid = c.valid; gone = λ u k h. omega (arith, (c.left u k h).0, (c.valid u b k h).0, c.long) }
-copying m b d ne (q ∷ qs) i s c = go (λ s₁ c₁. copying m b d ne qs (suc i) s₁ c₁) (names (get_or m q.tag None) b i) refl
-  where
+module _ (m : List (Option Place)) (b d : ℕ) (ne : b ≡ d → ⊥) where
+  module _ (q : Page) (qs : List Page) (i : ℕ) (s : State) (c : Copying m b d (q ∷ qs) i s) where
     q_is : page_at s b i ≡ q
     q_is = ap (page_at s b) (omega arith) ∙ c.found 0 (omega arith)
 
     later : (k : ℕ) → k < length qs → page_at s b (suc i + k) ≡ get_or qs k no_page
     later k l = ap (page_at s b) (omega arith) ∙ c.found (suc k) (omega arith)
 
-    go : ((s₁ : State) → Copying m b d qs (suc i) s₁ → Copied b s₁ (copy d (live_from m b (suc i) qs) s₁)) → (v : Bool) → names (get_or m q.tag None) b i ≡ v
-        → Copied b s (copy d (cond v (q ∷ live_from m b (suc i) qs) (live_from m b (suc i) qs)) s)
-    go rec true e =
-        let was : get_or m q.tag None ≡ Some (at b i) = names_is (get_or m q.tag None) b i e in
+    -- the tag of the page at i is q's
+    tag_at : (t k : ℕ) → Named s t b k → k ≡ i → t ≡ q.tag
+    tag_at t k h z = sym (c.valid t b k h).1 ∙ ap (λ y. (page_at s b y).tag) z ∙ ap (λ (x : Page). x.tag) q_is
+
+    -- the page is live, and copied
+    copied : names (get_or m q.tag None) b i ≡ true → Copying m b d qs (suc i) (program_page d q s)
+    copied e =
         let s₁ = program_page d q s in
-        let tl : q.tag < length s.places = subst (λ k. q.tag < k) (sym c.mapped) (place_below m q.tag (at b i) was) in
-        let pc = program_chip d q s in
-        let po = pages_other d q s c.in_chip b ne in
+        let tl : q.tag < length s.places = omega (arith, place_below m q.tag (at b i) (names_is (get_or m q.tag None) b i e), c.mapped) in
+        let same = pages_other d q s c.in_chip b ne in
         let other : (t k : ℕ) → Named s₁ t b k → t ≡ q.tag → ⊥ = λ t k h e'.
         ne (sym (same_place d _ b k (sym (place_same d q s c.in_chip tl) ∙ ap (λ x. get_or s₁.places x None) (sym e') ∙ h)).0) in
-        let r = rec s₁ (record {
-          in_chip = subst (λ k. d < k) (sym pc.0) c.in_chip;
-          mapped = pc.1 ∙ c.mapped;
-          found = λ k l. ap (λ (ps : List Page). get_or ps (suc i + k) no_page) po ∙ later k l;
-          long = ap length po ∙ c.long ∙ omega arith;
+        record {
+          in_chip = omega (arith, c.in_chip, program_blocks d q s);
+          mapped = program_places d q s ∙ c.mapped;
+          found = λ k l. ap (λ (ps : List Page). get_or ps (suc i + k) no_page) same ∙ later k l;
+          long = ap length same ∙ c.long ∙ omega arith;
           left = λ t k h.
               (let h₀ : Named s t b k = sym (place_other d q s c.in_chip t (other t k h)) ∙ h in
               let w = c.left t k h₀ in
-              let ki : k ≡ i → ⊥ = λ z. other t k h (sym (c.valid t b k h₀).1 ∙ ap (λ y. (page_at s b y).tag) z ∙ ap (λ (x : Page). x.tag) q_is) in
+              let ki : k ≡ i → ⊥ = λ z. other t k h (tag_at t k h₀ z) in
               (omega (arith, w.0), w.1));
           valid = valid_program d q s c.in_chip tl c.valid;
-        }) in
-        record { valid = r.valid; gone = r.gone }
-    go rec false e = rec s (record {
+        }
+
+    -- the page is not live
+    passed : names (get_or m q.tag None) b i ≡ false → Copying m b d qs (suc i) s
+    passed e = record {
       in_chip = c.in_chip;
       mapped = c.mapped;
       found = later;
       long = c.long ∙ omega arith;
       left = λ t k h.
           (let w = c.left t k h in
-          let ki : k ≡ i → ⊥ = λ z. names_not (get_or m q.tag None) b i e
-          (ap (λ y. get_or m y None) (sym (ap (λ (x : Page). x.tag) q_is) ∙ ap (λ y. (page_at s b y).tag) (sym z) ∙ (c.valid t b k h).1) ∙ w.1 ∙ ap (λ y. Some (at b y)) z) in
+          let ki : k ≡ i → ⊥ = λ z. names_not (get_or m q.tag None) b i e (ap (λ y. get_or m y None) (sym (tag_at t k h z)) ∙ w.1 ∙ ap (λ y. Some (at b y)) z) in
           (omega (arith, w.0), w.1));
       valid = c.valid;
-    })
+    }
+
+  copying : (rest : List Page) (i : ℕ) (s : State) → Copying m b d rest i s → Copied b (copy d (live_from m b i rest) s)
+  unfolding copy
+  copying [] i s c = record { valid = c.valid; gone = λ u k h. omega (arith, (c.left u k h).0, (c.valid u b k h).0, c.long) }
+  copying (q ∷ qs) i s c = cond_both (names (get_or m q.tag None) b i) (q ∷ live_from m b (suc i) qs) (live_from m b (suc i) qs) (λ ps. Copied b (copy d ps s))
+      (λ e. copying qs (suc i) (program_page d q s) (copied q qs i s c e)) (λ e. copying qs (suc i) s (passed q qs i s c e))
 
 -- the live pages of b, copied to another block
-pub copies : (b d : ℕ) (s : State) → (b ≡ d → ⊥) → d < length s.chip.blocks → Valid s → Copied b s (copy d (live_pages s b) s)
+pub copies : (b d : ℕ) (s : State) → (b ≡ d → ⊥) → d < length s.chip.blocks → Valid s → Copied b (copy d (live_pages s b) s)
 copies b d s ne l v = copying s.places b d ne (held s b).pages 0 s (record {
   in_chip = l;
   mapped = refl;

@@ -1,25 +1,18 @@
--- What the checks of start say in numbers, and pages as lists and by their places.
-use Rattle.std.proofs.Common.{◌≡◌, ℕ, zero, suc, ◌+◌, ◌-◌, ◌*◌, ◌/◌, ◌%◌, ◌<◌, ◌≤◌, Bool, true, false, ◌&&◌, ◌||◌, eqb, leb, List, [], ◌∷◌, length, get_or, sym, refl, ap, ◌∙◌, subst, mul-le-mul_right, div-add-mod', arith, pow_pos}
+-- What the checks of start say in numbers.
+use Rattle.std.proofs.Common.{◌≡◌, ℕ, zero, suc, ◌+◌, ◌-◌, ◌*◌, ◌/◌, ◌%◌, ◌<◌, ◌≤◌, Bool, true, false, ◌&&◌, eqb, leb, List, length, get_or, sym, ◌∙◌, subst, mul-le-mul_right, div-add-mod', arith}
 use Rattle.std.specs.List.{list_any}
-use Rattle.std.specs.List.{AllByRecursion as All}
-use Rattle.std.proofs.lemmas.Bool.{and_parts, leb-true, eqb-true, eqb-false}
+use Rattle.std.proofs.lemmas.Bool.{true≢false, false_from_ne_true, and_parts, eqb-true, eqb-false}
+use Rattle.std.proofs.lemmas.Bool.Decides.{nat_tests}
+use Rattle.std.proofs.lemmas.List.Folds.{list_any_at}
 use Rattle.flash.specs.Limits.{between}
-use Rattle.flash.specs.Meaning.{Flash, Block, Page, block, no_block, no_page, WellFormed as ChipFits}
+use Rattle.flash.specs.Meaning.{Flash, Block, block, no_block, WellFormed as ChipFits}
 use Rattle.rules.specs.declared.Settings.{Settings}
 use Rattle.rules.specs.Tables.{set_size}
 use Rattle.rules.specs.Calls.{sets_fit, is_worn}
 use Rattle.rules.specs.WellFormed.{Fitting}
-use Rattle.rules.proofs.Flags.{true_is_not_false}
 
 pub between_is : (low n high : ℕ) → between low n high ≡ true → (low ≤ n) × (n ≤ high)
-between_is low n high h = let p = and_parts (leb low n) (leb n high) h in (leb-true low n p.0, leb-true n high p.1)
-
-pub some_pred : (k : ℕ) → 0 < k → (w : ℕ) × (k ≡ suc w)
-some_pred zero h = absurd (omega arith)
-some_pred (suc w) h = (w, refl)
-
-pub size_pred : (g : Settings) → (w : ℕ) × (set_size g ≡ suc w)
-size_pred g = some_pred (set_size g) (pow_pos g.k)
+between_is low n high h = let p = and_parts (leb low n) (leb n high) h in (grind (arith, nat_tests), grind (arith, nat_tests))
 
 -- the room law, with no difference in it
 room_of : (n p l : ℕ) → 1 ≤ l → l ≤ (n - 1) * p - 1 → l + p < n * p
@@ -63,24 +56,9 @@ sets_whole g f h =
 
 -- what no block passes
 pub none_passes : (p : Block → Bool) (xs : List Block) → list_any p xs ≡ false → (b : ℕ) → b < length xs → p (get_or xs b no_block) ≡ false
-none_passes p [] h b l = absurd (omega arith)
-none_passes p (x ∷ xs) h b l = go (p x) refl b l (none_passes p xs)
-  where
-    go : (v : Bool) → p x ≡ v → (b : ℕ) → b < length (x ∷ xs) → (list_any p xs ≡ false → (b : ℕ) → b < length xs → p (get_or xs b no_block) ≡ false) → p (get_or (x ∷ xs) b no_block) ≡ false
-    go true e b l rec = true_is_not_false (sym (ap (λ v. v || list_any p xs) e) ∙ h)
-    go false e zero l rec = e
-    go false e (suc b) l rec = rec (sym (ap (λ v. v || list_any p xs) e) ∙ h) b (omega arith)
+none_passes p xs h b l = false_from_ne_true _ (λ t. true≢false (sym (list_any_at p xs b no_block l t) ∙ h))
 
 pub not_worn : (f : Flash) → ChipFits f → is_worn f ≡ false → (b : ℕ) → b < length f.blocks → (block f b).count < f.e
 not_worn f c h b l =
     let ne = eqb-false (block f b).count f.e (none_passes (λ x. eqb x.count f.e) f.blocks h b l) in
     omega (arith, (c.each b l).worn)
-
-pub all_at : (P : Page → Type 0) (xs : List Page) → All P xs → (i : ℕ) → i < length xs → P (get_or xs i no_page)
-all_at P [] h i l = absurd (omega arith)
-all_at P (x ∷ xs) h zero l = h.0
-all_at P (x ∷ xs) h (suc i) l = all_at P xs h.1 i (omega arith)
-
-pub all_by : (P : Page → Type 0) (xs : List Page) → ((i : ℕ) → i < length xs → P (get_or xs i no_page)) → All P xs
-all_by P [] h = tt
-all_by P (x ∷ xs) h = (h 0 (omega arith), all_by P xs (λ i l. h (suc i) (omega arith)))

@@ -1,5 +1,5 @@
 -- The blocks in a use, and the first of them in an order.
-use Rattle.std.proofs.Common.{◌≡◌, ℕ, zero, suc, ◌<◌, Bool, true, false, cond, List, [], ◌∷◌, map, length, get_or, slice_get, ⊎_elim, filter, All, AllPairs, Contains, IfSome, Some, None, Option, sym, refl, ap, ◌∙◌, arith}
+use Rattle.std.proofs.Common.{◌≡◌, ℕ, zero, suc, ◌<◌, Bool, true, List, [], ◌∷◌, map, length, get_or, slice_get, ⊎_elim, filter, All, AllPairs, Contains, IfSome, Some, None, Option, sym, refl, ap, ◌∙◌, arith}
 use Rattle.std.specs.List.{range_with_len}
 use Rattle.std.proofs.lemmas.List.{get_or_past}
 use Rattle.std.proofs.lemmas.List.FromFn.{length-range_with_len, get_or-range_with_len}
@@ -16,6 +16,14 @@ use Rattle.rules.proofs.Words.{Busy, NoOpen, NoneIn}
 
 pub busy_below : (s : State) (b : ℕ) → Busy s b → b < length s.uses
 busy_below s b h = ⊎_elim (λ l. l) (λ l. absurd (true≢false (sym h ∙ ap busy (get_or_past s.uses b Free l)))) (cases_lt b (length s.uses))
+
+pub busy_not_free : (s : State) (b d : ℕ) → Busy s b → use_of s d ≡ Free → b ≡ d → ⊥
+busy_not_free s b d h f e = true≢false (sym h ∙ ap (λ x. busy (use_of s x)) e ∙ ap busy f)
+
+pub busy_of : (u : Use) → (u ≡ Free → ⊥) → busy u ≡ true
+busy_of Free h = absurd (h refl)
+busy_of Open h = refl
+busy_of Closed h = refl
 
 is_use : (u v : Use) → same_use u v ≡ true → v ≡ u
 is_use Free Free h = refl
@@ -35,6 +43,9 @@ own_use Closed = refl
 
 Contains-cons : {X : Type 0} (x y : X) (xs : List X) → Contains xs x → Contains (y ∷ xs) x
 Contains-cons x y xs c = (suc c.0, omega (arith, c.1), c.2)
+
+pub Contains-one : {X : Type 0} (y x : X) → Contains (y ∷ []) x → x ≡ y
+Contains-one y x c = let k : c.0 ≡ 0 = omega (arith, c.1) in sym c.2 ∙ ap (λ i. get_or (y ∷ []) i x) k
 
 -- an element that passes is kept
 Contains-filter : {X : Type 0} (p : X → Bool) (xs : List X) (k : ℕ) (x : X) → k < length xs → get_or xs k x ≡ x → p x ≡ true → Contains (filter p xs) x
@@ -82,7 +93,7 @@ first_of P r (x ∷ xs) h = go (first r xs) (first_of P r xs (All-tail P x xs h)
     go (Some y) q = cond_both (r x y) x y P (λ _. All-head P x xs h) (λ _. q)
 
 -- and of some blocks there is a first
-first_none : (r : BlockOrder) (f : ℕ → BlockRecord) (xs : List ℕ) (x : ℕ) → Contains xs x → first r (map f xs) ≡ None → ⊥
+pub first_none : (r : BlockOrder) (f : ℕ → BlockRecord) (xs : List ℕ) (x : ℕ) → Contains xs x → first r (map f xs) ≡ None → ⊥
 first_none r f [] x c e = omega (arith, c.1)
 first_none r f (y ∷ xs) x c e = cc
 

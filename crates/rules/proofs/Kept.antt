@@ -1,9 +1,9 @@
 -- Every call on a sound leveller, refused or not.
-use Rattle.std.proofs.Common.{◌≡◌, ℕ, zero, suc, ◌*◌, ◌/◌, ◌<◌, ◌≤◌, Bool, true, false, not, eqb, ltb, ◌⊎◌, List, [], ◌∷◌, length, get_or, set, replicate, is_some, IfSome, Some, None, Ok, Option, sym, refl, ap, ◌∙◌, subst, inl, inr, arith}
-use Rattle.std.proofs.lemmas.List.{length-set, length-replicate, get_or_past}
-use Rattle.std.proofs.lemmas.Bool.{cases_lt, ltb-true, eqb-true}
+use Rattle.std.proofs.Common.{◌≡◌, ℕ, zero, suc, ◌*◌, ◌/◌, ◌<◌, ◌≤◌, Bool, true, false, not, eqb, ltb, List, [], ◌∷◌, length, get_or, replicate, is_some, IfSome, Some, None, Ok, Option, ⊎_elim, sym, refl, ap, ◌∙◌, inl, arith}
+use Rattle.std.proofs.lemmas.List.{length-set, length-replicate, get_or-replicate, get_or_past}
+use Rattle.std.proofs.lemmas.Bool.{cases_lt, not-false, ltb-true, eqb-true}
 use Rattle.flash.specs.Limits.{within}
-use Rattle.flash.specs.Meaning.{Flash, Block, block, no_block, geometry_of}
+use Rattle.flash.specs.Meaning.{Flash, Block, block, no_block, page, geometry_of}
 use Rattle.rules.specs.declared.Settings.{Settings}
 use Rattle.rules.specs.declared.Place.{Place}
 use Rattle.rules.specs.declared.Use.TheVariants.{Free}
@@ -18,7 +18,7 @@ use Rattle.rules.specs.Obeyed.{obeyed}
 use Rattle.rules.specs.Laws.{times_erased, NewSound, CleaningGains, StartKeeps, WriteKeeps, ReadKeeps, DiscardKeeps, WriteObeyed, WriteOnce, SearchEnds, LevellingEnds}
 use Rattle.rules.proofs.Flags.{seek_clear}
 use Rattle.rules.proofs.Flags.{ones_none}
-use Rattle.rules.proofs.Settled.{free_is_open}
+use Rattle.rules.proofs.AfterSet.{set_by}
 use Rattle.rules.proofs.Fits.{in_numbers, sets_whole, none_passes}
 use Rattle.rules.proofs.Wrote.{wrote, ends, wrote_well, wrote_fits, wrote_obeyed, wrote_once, cleaning}
 
@@ -35,21 +35,10 @@ unless_cases {T} P cs l buffer done no_call yes_call = go (refusal cs) refl
 same : (l : Leveller) → Sound l → Sound (record { tables = l.tables; chip = l.chip })
 same l h = record { chip_fits = h.chip_fits; kept = h.kept }
 
-some_none : {A : Type 0} (e : Refusal) → ◌≡◌ {A = Option Refusal} (Some e) None → A
-some_none e h = absurd (subst P h tt)
-  where
-    P : Option Refusal → Type 0
-    P None = ⊥
-    P (Some _) = Unit {0}
-
 -- the first of some checks is not true, nor are the others
 passed : (v : Bool) (e : Refusal) (cs : List (Bool × Refusal)) → refusal ((v, e) ∷ cs) ≡ None → (v ≡ false) × (refusal cs ≡ None)
-passed true e cs h = some_none e h
+passed true e cs h = absurd (cc)
 passed false e cs h = (refl, h)
-
-not_false : (v : Bool) → not v ≡ false → v ≡ true
-not_false true h = refl
-not_false false h = sym h
 
 -- write, by the tables that the leveller has
 abbrev write_by : BlockOrder → Leveller → ℕ → List ℕ → Option Tables → Outcome Written
@@ -61,7 +50,7 @@ write_accepted g f t bytes h =
     let a = passed (not (ltb t g.logical)) NoSuchPage _ h in
     let b = passed (not (eqb (length bytes) f.d)) WrongLength _ a.1 in
     let c = passed (is_worn f) WornOut [] b.1 in
-    (ltb-true t g.logical (not_false _ a.0), eqb-true (length bytes) f.d (not_false _ b.0), c.0)
+    (ltb-true t g.logical (not-false _ a.0), eqb-true (length bytes) f.d (not-false _ b.0), c.0)
 
 pub write_keeps : WriteKeeps
 unfolding write
@@ -113,13 +102,6 @@ read_keeps l t buffer h = go l.tables
     go None = same l h
     go (Some x) = unless_cases (λ o. Sound (left o)) (read_checks x.settings l.chip t buffer) l buffer (read_at l buffer (get_or x.places t None)) (λ e. same l h) (λ q. at (get_or x.places t None))
 
-none_some : {A : Type 0} (p : Place) → ◌≡◌ {A = Option Place} None (Some p) → A
-none_some p e = absurd (subst P e tt)
-  where
-    P : Option Place → Type 0
-    P None = Unit {0}
-    P (Some _) = ⊥
-
 -- discard: the map names less
 forgotten_well : (x : Tables) (f : Flash) (t : ℕ) → WellFormed x f → WellFormed (forgotten t x) f
 forgotten_well x f t k = record {
@@ -128,7 +110,7 @@ forgotten_well x f t k = record {
   marks_each = k.marks_each;
   places_each = length-set x.places t None ∙ k.places_each;
   flags_each = k.flags_each;
-  named = λ u b i q. k.named u b i (was x.places t u _ q);
+  named = λ u b i. set_by (λ o. o ≡ Some (record { block = b; page = i }) → (i < length (block f b).pages) × ((page f b i).tag ≡ u)) x.places t u None None (λ _ q. absurd (cc)) (k.named u b i);
   free_blank = k.free_blank;
   some_free = k.some_free;
   one_open = k.one_open;
@@ -139,13 +121,6 @@ forgotten_well x f t k = record {
   marks_past = k.marks_past;
   rounds_paid = k.rounds_paid;
 }
-  where
-    was : (m : List (Option Place)) (t u : ℕ) (p : Place) → get_or (set m t None) u None ≡ Some p → get_or m u None ≡ Some p
-    was [] t u p q = q
-    was (o ∷ m) zero zero p q = none_some p q
-    was (o ∷ m) zero (suc u) p q = q
-    was (o ∷ m) (suc t) zero p q = q
-    was (o ∷ m) (suc t) (suc u) p q = was m t u p q
 
 pub discard_keeps : DiscardKeeps
 unfolding discard
@@ -164,16 +139,13 @@ new_sound f c = record { chip_fits = c; kept = tt }
 
 -- start
 replicate_at : {X : Type 0} (n b : ℕ) (v : X) → get_or (replicate n v) b v ≡ v
-replicate_at zero b v = refl
-replicate_at (suc n) zero v = refl
-replicate_at (suc n) (suc b) v = replicate_at n b v
+replicate_at n b v = ⊎_elim (get_or-replicate n b v v) (λ l. get_or_past (replicate n v) b v (omega (arith, length-replicate n v))) (cases_lt b n)
 
 blank_blocks : (f : Flash) → has_written f ≡ false → (b : ℕ) → length (block f b).pages ≡ 0
-blank_blocks f h b = go (cases_lt b (length f.blocks))
-  where
-    go : (b < length f.blocks) ⊎ (length f.blocks ≤ b) → length (block f b).pages ≡ 0
-    go (inl l) = eqb-true _ 0 (not_false _ (none_passes (λ x. not (eqb (length x.pages) 0)) f.blocks h b l))
-    go (inr l) = ap (λ (y : Block). length y.pages) (get_or_past f.blocks b no_block l)
+blank_blocks f h b = ⊎_elim
+    (λ l. eqb-true _ 0 (not-false _ (none_passes (λ x. not (eqb (length x.pages) 0)) f.blocks h b l)))
+    (λ l. ap (λ (y : Block). length y.pages) (get_or_past f.blocks b no_block l))
+    (cases_lt b (length f.blocks))
 
 start_well : (f : Flash) (g : Settings) → Fitting g f → has_written f ≡ false → WellFormed (fresh_tables f g) f
 start_well f g fit blank =
@@ -186,10 +158,10 @@ start_well f g fit blank =
       marks_each = length-replicate n 0;
       places_each = length-replicate g.logical None;
       flags_each = whole ∙ ap (λ k. k * set_size g) (sym (length-replicate (n / set_size g) false));
-      named = λ t b i q. none_some (record { block = b; page = i }) (sym (replicate_at g.logical t None) ∙ q);
+      named = λ t b i q. (let e = sym (replicate_at g.logical t None) ∙ q in absurd (cc));
       free_blank = λ b q. blank_blocks f blank b;
       some_free = (0, omega (arith, length-replicate n Free, num.two_blocks), replicate_at n 0 Free);
-      one_open = λ b c q p. free_is_open (sym (replicate_at n b Free) ∙ q);
+      one_open = λ b c q p. (let e = sym (replicate_at n b Free) ∙ q in absurd (cc));
       flags_counted = ones_none (n / set_size g);
       levelled = inl (refl, refl);
       findex_below = sets_some (n / set_size g) (set_size g) whole num.two_blocks;
@@ -214,7 +186,7 @@ start_keeps l g h = unless_cases (λ o. Sound (left o)) (start_checks l g) l [] 
     record {
       chip_fits = h.chip_fits;
       kept = start_well l.chip g
-          (record { sizes = not_false _ b.0; sets = not_false _ c.0; threshold = not_false _ d.0; logical = not_false _ e.0 }) w.0;
+          (record { sizes = not-false _ b.0; sets = not-false _ c.0; threshold = not-false _ d.0; logical = not-false _ e.0 }) w.0;
     })
 
 pub search_ends : SearchEnds

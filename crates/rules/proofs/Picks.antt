@@ -1,68 +1,40 @@
 -- What is chosen by a victim order goes before all the others.
-use Rattle.std.proofs.Common.{◌≡◌, ℕ, Bool, true, false, cond, not, ◌⊎◌, List, [], ◌∷◌, map, Some, None, Option, sym, refl, ap, ◌∙◌, subst, inl, inr}
-use Rattle.std.specs.List.{AllByRecursion as All}
-use Rattle.std.proofs.lemmas.Bool.{cases_eq}
-use Rattle.std.proofs.ByRecursion.{All-weaker}
+use Rattle.std.proofs.Common.{◌≡◌, ℕ, true, not, List, [], ◌∷◌, map, get_or, IfSome, All, Some, None, Option, ⊎_elim, sym, refl, ap, ◌∙◌}
+use Rattle.std.proofs.lemmas.Bool.{cases_eq, cond_both}
+use Rattle.std.proofs.lemmas.List.Elements.{All-cons, All-weaker, Contains-get_or}
 use Rattle.orders.specs.declared.block.BlockRecord.{BlockRecord}
-use Rattle.rules.specs.Blocks.{BlockOrder, better, first}
-use Rattle.rules.proofs.Frame.{Of}
+use Rattle.rules.specs.Tables.{State}
+use Rattle.rules.specs.Blocks.{BlockOrder, record_of, better, first}
+use Rattle.rules.specs.Laws.{VictimOrder}
+use Rattle.rules.proofs.InUse.{first_none}
 
--- a before b in the order of numbers that r gives by the records f
-abbrev Leads : BlockOrder → (ℕ → BlockRecord) → ℕ → ℕ → Type 0
-Leads r f a b = (b ≡ a → ⊥) → r (f a) (f b) ≡ true
+module _ (r : BlockOrder) (s : State) where
+  -- block a goes before block b, unless they are one
+  abbrev pub Leads : ℕ → ℕ → Type 0
+  Leads a b = (b ≡ a → ⊥) → r (record_of s a) (record_of s b) ≡ true
 
--- the choice is the record of a number that goes before the others
-abbrev pub Leader : BlockOrder → (ℕ → BlockRecord) → List ℕ → BlockRecord → Type 0
-Leader r f bs v = (v ≡ f v.number) × All (Leads r f v.number) bs
+  -- the choice is the record of a block that goes before the others
+  abbrev pub Leader : List ℕ → BlockRecord → Type 0
+  Leader bs v = (v ≡ record_of s v.number) × All (Leads v.number) bs
 
-module _ (r : BlockOrder) (f : ℕ → BlockRecord) (numbered : (b : ℕ) → (f b).number ≡ b)
-    (total : (x y : BlockRecord) → (x.number ≡ y.number → ⊥) → r x y ≡ not (r y x))
-    (transitive : (x y z : BlockRecord) → (x.number ≡ y.number → ⊥) → (y.number ≡ z.number → ⊥) → (x.number ≡ z.number → ⊥) → r x y ≡ true → r y z ≡ true → r x z ≡ true) where
-  apart : (a b : ℕ) → (b ≡ a → ⊥) → (f a).number ≡ (f b).number → ⊥
-  apart a b ne e = ne (sym (numbered b) ∙ sym e ∙ numbered a)
-
-  other : (a b : ℕ) → (b ≡ a → ⊥) → r (f b) (f a) ≡ false → r (f a) (f b) ≡ true
-  other a b ne h = total (f a) (f b) (apart a b ne) ∙ ap not h
-
+module _ (r : BlockOrder) (vo : VictimOrder r) (s : State) where
   -- a goes before c, which goes before b
-  through : (a c b : ℕ) → r (f a) (f c) ≡ true → Leads r f c b → Leads r f a b
-  through a c b h l ne = go (cases_eq b c) (cases_eq c a)
-    where
-      go : (b ≡ c) ⊎ (b ≡ c → ⊥) → (c ≡ a) ⊎ (c ≡ a → ⊥) → r (f a) (f b) ≡ true
-      go (inl e) _ = ap (λ y. r (f a) (f y)) e ∙ h
-      go (inr e) (inl q) = ap (λ y. r (f y) (f b)) (sym q) ∙ l e
-      go (inr e) (inr q) = transitive (f a) (f c) (f b) (apart a c q) (apart c b e) (apart a b ne) h (l e)
+  through : (a c b : ℕ) → r (record_of s a) (record_of s c) ≡ true → Leads r s c b → Leads r s a b
+  through a c b h l ne = ⊎_elim
+      (λ e. ap (λ y. r (record_of s a) (record_of s y)) e ∙ h)
+      (λ e. ⊎_elim
+      (λ q. ap (λ y. r (record_of s y) (record_of s b)) (sym q) ∙ l e)
+      (λ q. vo.transitive (record_of s a) (record_of s c) (record_of s b) (λ z. q (sym z)) (λ z. e (sym z)) (λ z. ne (sym z)) h (l e))
+      (cases_eq c a))
+      (cases_eq b c)
 
-  pub leads : (bs : List ℕ) → Of (Leader r f bs) (first r (map f bs))
+  pub leads : (bs : List ℕ) → IfSome (first r (map (record_of s) bs)) (Leader r s bs)
   leads [] = tt
-  leads (a ∷ bs) = go (first r (map f bs)) (leads bs) (none_nil bs)
+  leads (a ∷ bs) = go (first r (map (record_of s) bs)) refl (leads bs)
     where
-      NoneNil : List ℕ → Option BlockRecord → Type 0
-      NoneNil [] o = Unit {0}
-      NoneNil (b ∷ bs) None = ⊥
-      NoneNil (b ∷ bs) (Some v) = Unit {0}
-
-      none_nil : (bs : List ℕ) → NoneNil bs (first r (map f bs))
-      none_nil [] = tt
-      none_nil (b ∷ bs) = tt
-
-      own : f a ≡ f (f a).number
-      own = ap f (sym (numbered a))
-
-      lead_a : (b : ℕ) → Leads r f a b → Leads r f (f a).number b
-      lead_a b l = subst (λ y. Leads r f y b) (sym (numbered a)) l
-
-      go₂ : (y : BlockRecord) → Leader r f bs y → (v : Bool) → r (f a) y ≡ v → Leader r f (a ∷ bs) (cond v (f a) y)
-      go₂ y l true e =
-          let h : r (f a) (f y.number) ≡ true = ap (r (f a)) (sym l.0) ∙ e in
-          (own, (lead_a a (λ ne. absurd (ne refl)), All-weaker (Leads r f y.number) (Leads r f (f a).number) (λ b k. lead_a b (through a y.number b h k)) bs l.1))
-      go₂ y l false e =
-          (l.0, ((λ ne. other y.number a ne (ap (r (f a)) (sym l.0) ∙ e)), l.1))
-
-      go₁ : (bs : List ℕ) → NoneNil bs None → All (Leads r f (f a).number) bs
-      go₁ [] n = tt
-      go₁ (b ∷ bs) n = absurd n
-
-      go : (o : Option BlockRecord) → Of (Leader r f bs) o → NoneNil bs o → Leader r f (a ∷ bs) (better r (f a) o)
-      go None l n = (own, (lead_a a (λ ne. absurd (ne refl)), go₁ bs n))
-      go (Some y) l n = go₂ y l (r (f a) y) refl
+      go : (o : Option BlockRecord) → first r (map (record_of s) bs) ≡ o → IfSome o (Leader r s bs) → Leader r s (a ∷ bs) (better r (record_of s a) o)
+      go None e l = (refl, All-cons (Leads r s a) a bs (λ ne. absurd (ne refl)) (λ k d lt. absurd (first_none r (record_of s) bs (get_or bs k d) (Contains-get_or bs k d lt) e)))
+      go (Some y) e l = cond_both (r (record_of s a) y) (record_of s a) y (Leader r s (a ∷ bs))
+          (λ t. let h : r (record_of s a) (record_of s y.number) ≡ true = ap (r (record_of s a)) (sym l.0) ∙ t in
+          (refl, All-cons (Leads r s a) a bs (λ ne. absurd (ne refl)) (All-weaker (Leads r s y.number) (Leads r s a) (λ b k. through a y.number b h k) bs l.1)))
+          (λ t. (l.0, All-cons (Leads r s y.number) a bs (λ ne. vo.total (record_of s a) (record_of s y.number) ne ∙ ap not (ap (r (record_of s a)) (sym l.0) ∙ t)) l.1))

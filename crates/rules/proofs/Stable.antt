@@ -1,17 +1,34 @@
--- What every erase, program and change of use keeps, a call keeps up to its levelling.
-use Rattle.std.proofs.Common.{◌≡◌, ℕ, Bool, true, false, List, [], ◌∷◌, map, get_or, slice_get, Some, None, Option, refl, ap, ◌∙◌}
-use Rattle.orders.specs.declared.block.BlockRecord.{BlockRecord}
+-- What every erase, program and change of use keeps, a call keeps; what every move and every erase of a dead block
+-- keeps, levelling keeps.
+use Rattle.std.proofs.Common.{◌≡◌, ℕ, zero, suc, ◌<◌, true, false, List, [], ◌∷◌, length, get_or, refl, ap, ◌∙◌}
 use Rattle.flash.specs.Meaning.{Page}
 use Rattle.rules.specs.declared.Settings.{Settings}
 use Rattle.rules.specs.declared.Use.{Use}
 use Rattle.rules.specs.declared.Use.TheVariants.{Free, Open, Closed}
 use Rattle.rules.specs.Tables.{State}
-use Rattle.rules.specs.Blocks.{BlockOrder, blocks_in, live_pages, record_of, first, first_free}
-use Rattle.rules.specs.Steps.{use_block, program_page, erase_block, copy, move, clean, close_open, open_first, open_next, has_room, make_room, store}
-use Rattle.rules.specs.Levelling.{clear_out, collect_block, collect}
+use Rattle.rules.specs.Blocks.{BlockOrder, use_of, live_pages}
+use Rattle.rules.specs.Steps.{use_block, program_page, erase_block, copy, move, close_open, make_room, store}
+use Rattle.rules.specs.Levelling.{set_blocks, collect_block, collect, sought, turn_to, end_round, even, collect_next, level_in}
 use Rattle.rules.specs.WellFormed.{busy}
 use Rattle.rules.proofs.Words.{Busy}
-use Rattle.rules.proofs.Frame.{copy_uses, first_of, recs_use, Of}
+use Rattle.rules.proofs.Frame.{copy_uses}
+use Rattle.rules.proofs.Choices.{close_open_by, store_by, clean_by, open_next_by, make_room_by, collect_block_by, level_in_by}
+
+pub record Settled (g : Settings) (Q : State → Type 0) : Type 0 where
+  pub by_move : (b d : ℕ) (s : State) → Busy s b → d < length s.uses → use_of s d ≡ Free → Q s → Q (move g b d (use_of s b) s)
+  pub by_dead : (b : ℕ) (s : State) → Busy s b → live_pages s b ≡ [] → Q s → Q (erase_block g b s)
+
+module _ (g : Settings) (Q : State → Type 0) (st : Settled g Q) where
+  pub settle_collect : (bs : List ℕ) (s : State) → Q s → Q (collect g bs s)
+  unfolding collect
+  settle_collect [] s h = h
+  settle_collect (b ∷ bs) s h = settle_collect bs (collect_block g b s) (collect_block_by Q s g b (λ _. h) (λ _. h) (λ k e. st.by_dead b s k e h) (λ d k l f. st.by_move b d s k l f h))
+
+  pub settle_level : ((i : ℕ) (s : State) → Q s → Q (turn_to i s)) → ((s : State) → even g s.meter ≡ false → Q s → Q (end_round s)) → (turns : ℕ) (s : State) → Q s → Q (level_in turns g s)
+  unfolding level_in collect_next
+  settle_level turn round zero s h = h
+  settle_level turn round (suc turns) s h = level_in_by Q s g turns (λ _. h) (λ e _. round s e h)
+      (λ _ _. settle_level turn round turns (collect_next g s) (turn _ _ (settle_collect (set_blocks g (sought s.meter)) s h)))
 
 pub record Stable (g : Settings) (Q : State → Type 0) : Type 0 where
   pub by_put : (b : ℕ) (u : Use) (s : State) → busy u ≡ true → Q s → Q (use_block b u s)
@@ -19,7 +36,7 @@ pub record Stable (g : Settings) (Q : State → Type 0) : Type 0 where
   pub by_erase : (b : ℕ) (s : State) → Busy s b → Q s → Q (erase_block g b s)
 
 module _ (g : Settings) (Q : State → Type 0) (st : Stable g Q) where
-  pub keeps_copy : (d : ℕ) (qs : List Page) (s : State) → Q s → Q (copy d qs s)
+  keeps_copy : (d : ℕ) (qs : List Page) (s : State) → Q s → Q (copy d qs s)
   unfolding copy
   keeps_copy d [] s h = h
   keeps_copy d (q ∷ qs) s h = keeps_copy d qs (program_page d q s) (st.by_program d q s h)
@@ -31,74 +48,19 @@ module _ (g : Settings) (Q : State → Type 0) (st : Stable g Q) where
       let k : Busy c b = ap (λ us. busy (get_or us b Free)) (copy_uses d (live_pages s b) s) ∙ hb in
       st.by_put d u (erase_block g b c) hu (st.by_erase b c k (keeps_copy d (live_pages s b) s h))
 
-  pub keeps_clean : (r : BlockOrder) (d : ℕ) (s : State) → Q s → Q (clean g r d s)
-  unfolding clean
-  keeps_clean r d s h = go (first r (map (record_of s) (blocks_in Closed s))) (first_of _ r _ (recs_use Closed g s))
-    where
-      go : (o : Option BlockRecord) → Of (λ v. get_or s.uses v.number Free ≡ Closed) o → Q (elim o [ None ↦ s | Some v ↦ move g v.number d Open s ])
-      go None t = h
-      go (Some v) t = keeps_move v.number d Open s refl (ap busy t) h
+  pub stable_settled : Settled g Q
+  stable_settled = record { by_move = λ b d s hb l f h. keeps_move b d (use_of s b) s hb hb h; by_dead = λ b s hb e h. st.by_erase b s hb h }
 
-  pub keeps_close : (s : State) → Q s → Q (close_open s)
-  unfolding close_open
-  keeps_close s h = go (blocks_in Open s)
-    where
-      go : (bs : List ℕ) → Q (elim (slice_get bs 0) [ None ↦ s | Some b ↦ use_block b Closed s ])
-      go [] = h
-      go (b ∷ bs) = st.by_put b Closed s refl h
-
-  keeps_first : (s : State) → Q s → Q (open_first s)
-  unfolding open_first
-  keeps_first s h = go (first_free s)
-    where
-      go : (o : Option BlockRecord) → Q (elim o [ None ↦ s | Some d ↦ use_block d.number Open s ])
-      go None = h
-      go (Some d) = st.by_put d.number Open s refl h
-
-  pub keeps_open_next : (r : BlockOrder) (fs : List ℕ) (s : State) → Q s → Q (open_next g r fs s)
-  unfolding open_next
-  keeps_open_next r [] s h = h
-  keeps_open_next r (f ∷ []) s h = keeps_clean r f s h
-  keeps_open_next r (f ∷ f' ∷ fs) s h = keeps_first s h
+  keeps_close : (s : State) → Q s → Q (close_open s)
+  keeps_close s h = close_open_by Q s (λ _. h) (λ b l e. st.by_put b Closed s refl h)
 
   pub keeps_make_room : (r : BlockOrder) (s : State) → Q s → Q (make_room g r s)
-  unfolding make_room
-  keeps_make_room r s h = go (has_room s)
-    where
-      go : (b : Bool) → Q (elim b [ true ↦ s | false ↦ open_next g r (blocks_in Free (close_open s)) (close_open s) ])
-      go true = h
-      go false = keeps_open_next r _ (close_open s) (keeps_close s h)
+  keeps_make_room r s h =
+      let t = close_open s in
+      let k = keeps_close s h in
+      make_room_by Q s g r (λ b l e m. h) (open_next_by Q t g r (λ _. k)
+      (λ d l f only. clean_by Q t g r d (λ _. k) (λ v lv e _. keeps_move v.number d Open t refl (ap busy e) k))
+      (λ d c ld fd lc fc ne. st.by_put d Open t refl k))
 
   pub keeps_store : (q : Page) (s : State) → Q s → Q (store q s)
-  unfolding store
-  keeps_store q s h = go (blocks_in Open s)
-    where
-      go : (bs : List ℕ) → Q (elim (slice_get bs 0) [ None ↦ s | Some b ↦ program_page b q s ])
-      go [] = h
-      go (b ∷ bs) = st.by_program b q s h
-
-  pub keeps_clear_out : (b : ℕ) (u : Use) (s : State) → busy u ≡ true → Busy s b → Q s → Q (clear_out g b u s)
-  unfolding clear_out
-  keeps_clear_out b u s hu hb h = go (live_pages s b)
-    where
-      go₁ : (o : Option BlockRecord) → Q (elim o [ None ↦ s | Some d ↦ move g b d.number u s ])
-      go₁ None = h
-      go₁ (Some d) = keeps_move b d.number u s hu hb h
-
-      go : (qs : List Page) → Q (elim qs [ [] ↦ erase_block g b s | _ ∷ _ ↦ elim (first_free s) [ None ↦ s | Some d ↦ move g b d.number u s ] ])
-      go [] = st.by_erase b s hb h
-      go (_ ∷ _) = go₁ (first_free s)
-
-  pub keeps_collect_block : (b : ℕ) (s : State) → Q s → Q (collect_block g b s)
-  unfolding collect_block
-  keeps_collect_block b s h = go (get_or s.uses b Free) refl
-    where
-      go : (u : Use) → get_or s.uses b Free ≡ u → Q (elim u [ Free ↦ s | Open ↦ clear_out g b Open s | Closed ↦ clear_out g b Closed s ])
-      go Free e = h
-      go Open e = keeps_clear_out b Open s refl (ap busy e) h
-      go Closed e = keeps_clear_out b Closed s refl (ap busy e) h
-
-  pub keeps_collect : (bs : List ℕ) (s : State) → Q s → Q (collect g bs s)
-  unfolding collect
-  keeps_collect [] s h = h
-  keeps_collect (b ∷ bs) s h = keeps_collect bs (collect_block g b s) (keeps_collect_block b s h)
+  keeps_store q s h = store_by Q s q (λ _. h) (λ b l e. st.by_program b q s h)

@@ -1,5 +1,5 @@
 -- What the proofs say of a state, in short.
-use Rattle.std.proofs.Common.{◌≡◌, ℕ, ◌*◌, ◌/◌, ◌<◌, ◌≤◌, true, false, ◌⊎◌, length, get_or}
+use Rattle.std.proofs.Common.{◌≡◌, ℕ, ◌*◌, ◌/◌, ◌<◌, ◌≤◌, true, false, ◌⊎◌, length, get_or, pow_pos, div-lt_iff_lt-mul, arith}
 use Rattle.flash.specs.Meaning.{Block, block}
 use Rattle.rules.specs.declared.Settings.{Settings}
 use Rattle.rules.specs.declared.Use.{Use}
@@ -19,9 +19,16 @@ Busy s b = busy (get_or s.uses b Free) ≡ true
 
 -- n blocks in m sets
 pub record Sized (g : Settings) (n m : ℕ) (s : State) : Type 0 where
+  pub sets : n ≡ m * set_size g
   pub chips : length s.chip.blocks ≡ n
   pub tables : length s.uses ≡ n
   pub flagged : length s.meter.flags ≡ m
+
+pub some_size : (g : Settings) → 0 < set_size g
+some_size g = pow_pos g.k
+
+pub set_of : (g : Settings) (n m : ℕ) (s : State) → Sized g n m s → (x : ℕ) → x < n → x / set_size g < length s.meter.flags
+set_of g n m s z x h = let w = some_size g in let l : x / set_size g < m = (div-lt_iff_lt-mul w).1 (omega arith) in omega arith
 
 abbrev pub SomeFree : State → Type 0
 SomeFree s = (x : ℕ) × (x < length s.uses) × (get_or s.uses x Free ≡ Free)

@@ -1,9 +1,9 @@
 -- The one outcome of each call of a leveller, for all arguments: start, write, read, discard.
 -- A call tries its refusals in rising number; the first that applies is its answer, and all is as it was.
-use Rattle.std.specs.Prelude.{ℕ, ◌-◌, ◌*◌, ◌/◌, ◌%◌, Bool, true, false, not, ◌&&◌, ◌||◌, List, [], ◌∷◌, length, replicate, is_some, Some, None, Ok, Err, sum_by, Option, ◌==◌, nat_eq, nat_le, nat_lt, slice_index_or, slice_set}
+use Rattle.std.specs.Prelude.{ℕ, ◌-◌, ◌*◌, ◌/◌, ◌%◌, Bool, true, false, not, ◌&&◌, List, [], ◌∷◌, length, replicate, is_some, Some, None, Ok, Err, sum_by, Option, ◌==◌, nat_eq, nat_le, nat_lt, slice_index_or, slice_set}
 use Rattle.std.specs.List.{list_any}
 use Rattle.flash.specs.Limits.{between, within}
-use Rattle.flash.specs.Meaning.{Flash, Block, Op, program, erase, page, page_of, geometry_of}
+use Rattle.flash.specs.Meaning.{Flash, Op, program, erase, page, page_of, geometry_of}
 use Rattle.rules.specs.declared.Settings.{Settings}
 use Rattle.rules.specs.declared.Place.{Place}
 use Rattle.rules.specs.declared.Use.TheVariants.{Free}

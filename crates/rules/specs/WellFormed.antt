@@ -3,9 +3,9 @@
 --   Fitting      what start has checked of the settings and the chip's size
 --   WellFormed   the facts that tie a started leveller's tables to each other and to the chip
 --   Sound        the chip keeps its bounds and the tables, if there are any, are well formed
-use Rattle.std.specs.Prelude.{◌≡◌, ℕ, suc, ◌+◌, ◌*◌, ◌/◌, ◌<◌, ◌≤◌, Bool, true, false, ◌⊎◌, List, length, count_by, sum_by, Some, None, IfSome, slice_index, slice_index_or}
+use Rattle.std.specs.Prelude.{◌≡◌, ℕ, ◌+◌, ◌*◌, ◌/◌, ◌<◌, ◌≤◌, Bool, true, false, ◌⊎◌, List, length, count_by, sum_by, Some, None, IfSome, slice_index, slice_index_or}
 use Rattle.flash.specs.Limits.{within}
-use Rattle.flash.specs.Meaning.{Flash, Block, block, page, geometry_of, WellFormed as ChipFits}
+use Rattle.flash.specs.Meaning.{Flash, block, page, geometry_of, WellFormed as ChipFits}
 use Rattle.rules.specs.declared.Settings.{Settings}
 use Rattle.rules.specs.declared.Use.{Use}
 use Rattle.rules.specs.declared.Use.TheVariants.{Free, Open, Closed}
