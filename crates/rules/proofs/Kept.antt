@@ -10,97 +10,73 @@ use Rattle.rules.specs.declared.Use.TheVariants.{Free}
 use Rattle.rules.specs.declared.Written.{Written}
 use Rattle.rules.specs.declared.Refusal.{Refusal}
 use Rattle.rules.specs.declared.Refusal.TheVariants.{AlreadyStarted, OutsideLimits, UnevenSets, WrongThreshold, WrongLogical, NotBlank, NotStarted, NoSuchPage, WrongLength, WornOut}
-use Rattle.rules.specs.Tables.{Tables, Leveller, Outcome, begin, left, set_size}
+use Rattle.rules.specs.Tables.{Tables, State, Leveller, Outcome, begin, left, set_size}
 use Rattle.rules.specs.Blocks.{BlockOrder}
 use Rattle.rules.specs.Calls.{refusal, refused, unless, sets_fit, threshold_fits, logical_fits, has_written, is_worn, start_checks, write_checks, read_checks, discard_checks, fresh_tables, forgotten, writing, write_done, read_at, start, write, read, discard}
 use Rattle.rules.specs.WellFormed.{Fitting, WellFormed, Sound}
 use Rattle.rules.specs.Obeyed.{obeyed}
-use Rattle.rules.specs.Laws.{times_erased, NewSound, CleaningGains, StartKeeps, WriteKeeps, ReadKeeps, DiscardKeeps, WriteObeyed, WriteOnce, SearchEnds, LevellingEnds}
+use Rattle.rules.specs.Laws.{VictimOrder, times_erased, NewSound, CleaningGains, StartKeeps, WriteKeeps, ReadKeeps, DiscardKeeps, WriteObeyed, WriteOnce, SearchEnds, LevellingEnds}
 use Rattle.rules.proofs.Flags.{seek_clear}
 use Rattle.rules.proofs.Flags.{ones_none}
 use Rattle.rules.proofs.AfterSet.{set_by}
 use Rattle.rules.proofs.Fits.{in_numbers, sets_whole, none_passes}
-use Rattle.rules.proofs.Wrote.{wrote, ends, wrote_well, wrote_fits, wrote_obeyed, wrote_once, cleaning}
+use Rattle.rules.proofs.Wrote.{Wrote, wrote, ends, wrote_well, wrote_fits, wrote_obeyed, wrote_once, cleaning}
 
 -- an outcome is either the refusal or what is done where no check is true
-unless_cases : {T : Type 0} (P : Outcome T → Type 0) (cs : List (Bool × Refusal)) (l : Leveller) (buffer : List ℕ) (done : Outcome T)
+unless_by : {T : Type 0} (P : Outcome T → Type 0) (cs : List (Bool × Refusal)) (l : Leveller) (buffer : List ℕ) (done : Outcome T)
     → ((e : Refusal) → P (refused e l buffer)) → (refusal cs ≡ None → P done) → P (unless cs l buffer done)
-unless_cases {T} P cs l buffer done no_call yes_call = go (refusal cs) refl
+unless_by {T} P cs l buffer done refuse accept = go (refusal cs) refl
   where
     go : (o : Option Refusal) → refusal cs ≡ o → P (elim o [ None ↦ done | Some e ↦ refused e l buffer ])
-    go None h = yes_call h
-    go (Some e) h = no_call e
+    go None h = accept h
+    go (Some e) h = refuse e
 
--- what a refusal leaves
-same : (l : Leveller) → Sound l → Sound (record { tables = l.tables; chip = l.chip })
-same l h = record { chip_fits = h.chip_fits; kept = h.kept }
+-- the same of a call that asks for a started leveller
+started_by : {T : Type 0} (P : Outcome T → Type 0) (cs : Tables → List (Bool × Refusal)) (l : Leveller) (buffer : List ℕ) (done : Tables → Outcome T) → Sound l
+    → ((e : Refusal) → P (refused e l buffer)) → ((x : Tables) → WellFormed x l.chip → refusal (cs x) ≡ None → P (done x)) → P (elim l.tables [ None ↦ refused NotStarted l buffer | Some x ↦ unless (cs x) l buffer (done x) ])
+started_by P cs l buffer done h refuse accept = go l.tables h.kept
+  where
+    go : (o : Option Tables) → IfSome o (λ x. WellFormed x l.chip) → P (elim o [ None ↦ refused NotStarted l buffer | Some x ↦ unless (cs x) l buffer (done x) ])
+    go None k = refuse NotStarted
+    go (Some x) k = unless_by P (cs x) l buffer (done x) refuse (accept x k)
 
 -- the first of some checks is not true, nor are the others
 passed : (v : Bool) (e : Refusal) (cs : List (Bool × Refusal)) → refusal ((v, e) ∷ cs) ≡ None → (v ≡ false) × (refusal cs ≡ None)
 passed true e cs h = absurd (cc)
 passed false e cs h = (refl, h)
 
--- write, by the tables that the leveller has
-abbrev write_by : BlockOrder → Leveller → ℕ → List ℕ → Option Tables → Outcome Written
-write_by r l t bytes None = refused NotStarted l bytes
-write_by r l t bytes (Some x) = unless (write_checks x.settings l.chip t bytes) l bytes (write_done x.settings bytes (writing x.settings r t bytes (begin x l.chip)))
-
-write_accepted : (g : Settings) (f : Flash) (t : ℕ) (bytes : List ℕ) → refusal (write_checks g f t bytes) ≡ None → (t < g.logical) × (length bytes ≡ f.d) × (is_worn f ≡ false)
-write_accepted g f t bytes h =
-    let a = passed (not (ltb t g.logical)) NoSuchPage _ h in
-    let b = passed (not (eqb (length bytes) f.d)) WrongLength _ a.1 in
-    let c = passed (is_worn f) WornOut [] b.1 in
-    (ltb-true t g.logical (not-false _ a.0), eqb-true (length bytes) f.d (not-false _ b.0), c.0)
+-- a write is refused, or done with all that it keeps
+write_by : (P : Outcome Written → Type 0) (r : BlockOrder) → VictimOrder r → (l : Leveller) (t : ℕ) (bytes : List ℕ) → Sound l → ((e : Refusal) → P (refused e l bytes))
+    → ((x : Tables) (k : WellFormed x l.chip) (s : State) → is_worn l.chip ≡ false → Wrote x l.chip s → P (write_done x.settings bytes s)) → P (write r l t bytes)
+unfolding write
+write_by P r vo l t bytes h refuse accept =
+    started_by P (λ x. write_checks x.settings l.chip t bytes) l bytes (λ x. write_done x.settings bytes (writing x.settings r t bytes (begin x l.chip))) h refuse
+    (λ x k q.
+    let a = passed (not (ltb t x.settings.logical)) NoSuchPage _ q in
+    let b = passed (not (eqb (length bytes) l.chip.d)) WrongLength _ a.1 in
+    let c = passed (is_worn l.chip) WornOut [] b.1 in
+    accept x k _ c.0 (wrote r x l.chip k t bytes vo h.chip_fits (ltb-true t x.settings.logical (not-false _ a.0)) (eqb-true (length bytes) l.chip.d (not-false _ b.0))))
 
 pub write_keeps : WriteKeeps
-unfolding write
-write_keeps r vo l t bytes h = go l.tables h.kept
-  where
-    go : (o : Option Tables) → IfSome o (λ x. WellFormed x l.chip) → Sound (left (write_by r l t bytes o))
-    go None k = same l h
-    go (Some x) k = unless_cases (λ o. Sound (left o)) (write_checks x.settings l.chip t bytes) l bytes (write_done x.settings bytes (writing x.settings r t bytes (begin x l.chip))) (λ e. same l h)
-        (λ q. let a = write_accepted x.settings l.chip t bytes q in
-        let w = wrote r x l.chip k t bytes vo h.chip_fits a.0 a.1 in
-        record { chip_fits = wrote_fits x l.chip k h.chip_fits (writing x.settings r t bytes (begin x l.chip)) w a.2; kept = wrote_well x l.chip k h.chip_fits (writing x.settings r t bytes (begin x l.chip)) w })
+write_keeps r vo l t bytes h = write_by (λ o. Sound (left o)) r vo l t bytes h (λ e. h) (λ x k s nw w. record { chip_fits = wrote_fits x l.chip k h.chip_fits s w nw; kept = wrote_well x l.chip k h.chip_fits s w })
 
 pub write_obeyed : WriteObeyed
-unfolding write
-write_obeyed r vo l t bytes h = go l.tables h.kept
-  where
-    go : (o : Option Tables) → IfSome o (λ x. WellFormed x l.chip) → obeyed (write_by r l t bytes o).operations l.chip ≡ Some (write_by r l t bytes o).chip
-    go None k = refl
-    go (Some x) k = unless_cases (λ o. obeyed o.operations l.chip ≡ Some o.chip) (write_checks x.settings l.chip t bytes) l bytes (write_done x.settings bytes (writing x.settings r t bytes (begin x l.chip))) (λ e. refl)
-        (λ q. let a = write_accepted x.settings l.chip t bytes q in
-        wrote_obeyed x l.chip k h.chip_fits (writing x.settings r t bytes (begin x l.chip)) (wrote r x l.chip k t bytes vo h.chip_fits a.0 a.1) a.2)
+write_obeyed r vo l t bytes h = write_by (λ o. obeyed o.operations l.chip ≡ Some o.chip) r vo l t bytes h (λ e. refl) (λ x k s nw w. wrote_obeyed x l.chip k h.chip_fits s w nw)
 
 pub write_once : WriteOnce
-unfolding write
-write_once r vo l t bytes h b = go l.tables h.kept
-  where
-    go : (o : Option Tables) → IfSome o (λ x. WellFormed x l.chip) → times_erased b (write_by r l t bytes o).operations ≤ 1
-    go None k = omega arith
-    go (Some x) k = unless_cases (λ o. times_erased b o.operations ≤ 1) (write_checks x.settings l.chip t bytes) l bytes (write_done x.settings bytes (writing x.settings r t bytes (begin x l.chip))) (λ e. omega arith)
-        (λ q. let a = write_accepted x.settings l.chip t bytes q in
-        wrote_once x l.chip k h.chip_fits (writing x.settings r t bytes (begin x l.chip)) (wrote r x l.chip k t bytes vo h.chip_fits a.0 a.1) b)
+write_once r vo l t bytes h b = write_by (λ o. times_erased b o.operations ≤ 1) r vo l t bytes h (λ e. omega arith) (λ x k s nw w. wrote_once x l.chip k h.chip_fits s w b)
 
 pub cleaning_gains : CleaningGains
-cleaning_gains r vo x f c k d e = cleaning r vo x f c k d e
+cleaning_gains = cleaning
 
 -- read
 pub read_keeps : ReadKeeps
 unfolding read
-read_keeps l t buffer h = go l.tables
+read_keeps l t buffer h = started_by (λ o. Sound (left o)) (λ x. read_checks x.settings l.chip t buffer) l buffer (λ x. read_at l buffer (get_or x.places t None)) h (λ e. h) (λ x k q. at (get_or x.places t None))
   where
     at : (o : Option Place) → Sound (left (read_at l buffer o))
-    at None = same l h
-    at (Some q) = record { chip_fits = h.chip_fits; kept = h.kept }
-
-    go : (o : Option Tables) → Sound (left (elim o as (λ _. Outcome (Unit {0})) [
-      | None ↦ refused NotStarted l buffer
-      | Some x ↦ unless (read_checks x.settings l.chip t buffer) l buffer (read_at l buffer (get_or x.places t None))
-    ]))
-    go None = same l h
-    go (Some x) = unless_cases (λ o. Sound (left o)) (read_checks x.settings l.chip t buffer) l buffer (read_at l buffer (get_or x.places t None)) (λ e. same l h) (λ q. at (get_or x.places t None))
+    at None = h
+    at (Some q) = h
 
 -- discard: the map names less
 forgotten_well : (x : Tables) (f : Flash) (t : ℕ) → WellFormed x f → WellFormed (forgotten t x) f
@@ -124,14 +100,8 @@ forgotten_well x f t k = record {
 
 pub discard_keeps : DiscardKeeps
 unfolding discard
-discard_keeps l t h = go l.tables h.kept
-  where
-    go : (o : Option Tables) → IfSome o (λ x. WellFormed x l.chip) → Sound (left (elim o as (λ _. Outcome (Unit {0})) [
-      | None ↦ refused NotStarted l []
-      | Some x ↦ unless (discard_checks x t) l [] (record { answer = Ok tt; tables = Some (forgotten t x); chip = l.chip; buffer = []; operations = [] })
-    ]))
-    go None k = same l h
-    go (Some x) k = unless_cases (λ o. Sound (left o)) (discard_checks x t) l [] (record { answer = Ok tt; tables = Some (forgotten t x); chip = l.chip; buffer = []; operations = [] }) (λ e. same l h) (λ q. record { chip_fits = h.chip_fits; kept = forgotten_well x l.chip t k })
+discard_keeps l t h = started_by (λ o. Sound (left o)) (λ x. discard_checks x t) l [] (λ x. record { answer = Ok tt; tables = Some (forgotten t x); chip = l.chip; buffer = []; operations = [] }) h (λ e. h)
+    (λ x k q. record { chip_fits = h.chip_fits; kept = forgotten_well x l.chip t k })
 
 -- a new leveller
 pub new_sound : NewSound
@@ -176,7 +146,7 @@ start_well f g fit blank =
 
 pub start_keeps : StartKeeps
 unfolding start
-start_keeps l g h = unless_cases (λ o. Sound (left o)) (start_checks l g) l [] (record { answer = Ok tt; tables = Some (fresh_tables l.chip g); chip = l.chip; buffer = []; operations = [] }) (λ e. same l h)
+start_keeps l g h = unless_by (λ o. Sound (left o)) (start_checks l g) l [] (record { answer = Ok tt; tables = Some (fresh_tables l.chip g); chip = l.chip; buffer = []; operations = [] }) (λ e. h)
     (λ q. let a = passed (is_some l.tables) AlreadyStarted _ q in
     let b = passed (not (within (geometry_of l.chip))) OutsideLimits _ a.1 in
     let c = passed (not (sets_fit l.chip g)) UnevenSets _ b.1 in
