@@ -141,7 +141,7 @@ read l t buffer = elim l.tables [
 
 -- The map names nothing for page t.
 abbrev pub forgotten : ℕ → Tables → Tables
-forgotten t x = record { settings = x.settings; places = slice_set x.places t None; uses = x.uses; marks = x.marks; meter = x.meter }
+forgotten t x = record x { places = slice_set x.places t None }
 
 abbrev pub discard_checks : Tables → ℕ → List (Bool × Refusal)
 discard_checks x t =

@@ -5,7 +5,7 @@
 --   seek          the next set with a clear flag, from a set on, cyclically
 --   end_round     flags and counters back to 0, one more round finished; findex stays
 --   level         the whole procedure
-use Rattle.std.specs.Prelude.{ℕ, zero, suc, ◌*◌, Bool, true, false, cond, ◌||◌, List, [], ◌∷◌, length, replicate, Some, None, ◌==◌, nat_lt, slice_index_or}
+use Rattle.std.specs.Prelude.{ℕ, zero, suc, ◌*◌, Bool, true, false, cond, ◌||◌, List, [], ◌∷◌, length, replicate, Some, None, ◌==◌, nat_lt, fold, slice_index_or}
 use Rattle.std.specs.List.{range_with_len}
 use Rattle.rules.specs.declared.Settings.{Settings}
 use Rattle.rules.specs.declared.Use.{Use}
@@ -31,8 +31,7 @@ unfoldable pub collect_block : Settings → ℕ → State → State
 collect_block g b s = elim (use_of s b) [ Free ↦ s | Open ↦ clear_out g b Open s | Closed ↦ clear_out g b Closed s ]
 
 unfoldable pub collect : Settings → List ℕ → State → State
-collect g [] s = s
-collect g (b ∷ bs) s = collect g bs (collect_block g b s)
+collect g bs s = fold (λ t b. collect_block g b t) s bs
 
 -- One set further, from the last back to 0.
 abbrev pub next : ℕ → ℕ → ℕ
@@ -48,23 +47,11 @@ abbrev pub sought : Meter → ℕ
 sought m = seek (length m.flags) m.flags m.findex
 
 unfoldable pub turn_to : ℕ → State → State
-turn_to i s = record {
-  chip = s.chip;
-  places = s.places;
-  uses = s.uses;
-  marks = s.marks;
-  log = s.log;
-  meter = record { flags = s.meter.flags; ecnt = s.meter.ecnt; fcnt = s.meter.fcnt; findex = i; rounds = s.meter.rounds };
-}
+turn_to i s = record s { meter = record (s.meter) { findex = i } }
 
 unfoldable pub end_round : State → State
-end_round s = record {
-  chip = s.chip;
-  places = s.places;
-  uses = s.uses;
-  marks = s.marks;
-  log = s.log;
-  meter = record { flags = replicate (length s.meter.flags) false; ecnt = 0; fcnt = 0; findex = s.meter.findex; rounds = suc s.meter.rounds };
+end_round s = record s {
+  meter = record (s.meter) { flags = replicate (length s.meter.flags) false; ecnt = 0; fcnt = 0; rounds = suc s.meter.rounds };
 }
 
 -- Levelling has nothing to do: no flag is set, or there were fewer than T erases to a flag.

@@ -7,7 +7,7 @@
 --   move           a block's live pages go to a free block, the block is erased, the other gets a use
 --   make_room      steps 1 to 3 of a write: afterwards the open block has an unwritten page
 --   store          step 4 of a write
-use Rattle.std.specs.Prelude.{ℕ, suc, ◌/◌, Bool, true, false, cond, List, [], ◌∷◌, ◌++◌, length, Some, None, nat_lt, slice_index_or, slice_set}
+use Rattle.std.specs.Prelude.{ℕ, suc, ◌/◌, Bool, true, false, cond, List, [], ◌∷◌, ◌++◌, length, Some, None, nat_lt, fold, slice_index_or, slice_set}
 use Rattle.flash.specs.Meaning.{Page, program, erase, block, programmed, erased}
 use Rattle.rules.specs.declared.Settings.{Settings}
 use Rattle.rules.specs.declared.Use.{Use}
@@ -16,43 +16,36 @@ use Rattle.rules.specs.Tables.{Meter, State, set_size}
 use Rattle.rules.specs.Blocks.{BlockOrder, blocks_in, live_pages, records, first, first_free, open_block}
 
 unfoldable pub use_block : ℕ → Use → State → State
-use_block b u s = record { chip = s.chip; places = s.places; uses = slice_set s.uses b u; marks = s.marks; meter = s.meter; log = s.log }
+use_block b u s = record s { uses = slice_set s.uses b u }
 
 -- The one step that programs, for new pages and for copies, and so the one that sets an age mark.
 unfoldable pub program_page : ℕ → Page → State → State
-program_page b q s = record {
+program_page b q s = record s {
   chip = programmed s.chip b q;
   places = slice_set s.places q.tag (Some (record { block = b; page = length (block s.chip b).pages }));
-  uses = s.uses;
   marks = slice_set s.marks b s.meter.rounds;
-  meter = s.meter;
   log = s.log ++ program b q ∷ [];
 }
 
 -- An erase in set i: one erase more, and one flag more if the set had none.
 unfoldable pub count_erase : ℕ → Meter → Meter
-count_erase i m = record {
+count_erase i m = record m {
   flags = slice_set m.flags i true;
   ecnt = suc m.ecnt;
   fcnt = cond (slice_index_or m.flags i true) m.fcnt (suc m.fcnt);
-  findex = m.findex;
-  rounds = m.rounds;
 }
 
 unfoldable pub erase_block : Settings → ℕ → State → State
-erase_block g b s = record {
+erase_block g b s = record s {
   chip = erased s.chip b;
-  places = s.places;
   uses = slice_set s.uses b Free;
-  marks = s.marks;
   meter = count_erase (b / set_size g) s.meter;
   log = s.log ++ erase b ∷ [];
 }
 
 -- Copies keep tag and bytes, and the map follows each.
 unfoldable pub copy : ℕ → List Page → State → State
-copy d [] s = s
-copy d (q ∷ qs) s = copy d qs (program_page d q s)
+copy d qs s = fold (λ t q. program_page d q t) s qs
 
 -- The live pages of b go to d in rising page order, b is erased and joins the pool, and d gets the use u.
 unfoldable pub move : Settings → ℕ → ℕ → Use → State → State
