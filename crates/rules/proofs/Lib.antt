@@ -18,8 +18,8 @@ pub mod Runs
 pub mod PagesFit
 pub mod Picks
 pub mod Crowds
+pub mod Fits
 pub mod Room
 pub mod Booked
-pub mod Fits
 pub mod Wrote
 pub mod Kept

@@ -21,17 +21,17 @@ use Rattle.rules.proofs.Stable.{settle_level}
 use Rattle.rules.proofs.Copies.{pages_same, pages_other}
 use Rattle.rules.proofs.Runs.{Runs, runs_push}
 
--- p pages at most, each of d bytes and with a tag that fits
-abbrev pub Good : ℕ → ℕ → List Page → Type 0
-Good p d ps = (length ps ≤ p) × All (PageFits d) ps
+-- P pages at most, each of D bytes and with a tag that fits
+abbrev pub Good : Flash → List Page → Type 0
+Good was ps = (length ps ≤ was.p) × All (PageFits was.d) ps
 
 -- was is the chip as the log began
-pub record PagesFit (n p d : ℕ) (was : Flash) (s : State) : Type 0 where
-  pub chips : length s.chip.blocks ≡ n
-  pub tables : length s.uses ≡ n
-  pub good : (b : ℕ) → Good p d (held s b).pages
+pub record PagesFit (was : Flash) (s : State) : Type 0 where
+  pub chips : length s.chip.blocks ≡ length was.blocks
+  pub tables : length s.uses ≡ length was.blocks
+  pub good : (b : ℕ) → Good was (held s b).pages
   pub blanks : (b : ℕ) → use_of s b ≡ Free → length (held s b).pages ≡ 0
-  pub runs : Runs n p d s.log was s.chip
+  pub runs : Runs was s.log was s.chip
 
 live_all : (P : Page → Type 0) (m : List (Option Place)) (b i : ℕ) (ps : List Page) → All P ps → All P (live_from m b i ps)
 live_all P m b i [] h = h
@@ -48,38 +48,38 @@ live_from_short m b i (q ∷ qs) =
 pub live_short : (s : State) (b : ℕ) → length (live_pages s b) ≤ length (held s b).pages
 live_short s b = live_from_short s.places b 0 (held s b).pages
 
-module _ (n p d : ℕ) (was : Flash) where
+module _ (was : Flash) where
   -- pages that go to block c, up to k of them there
   pub record Filled (c k : ℕ) (s t : State) : Type 0 where
-    pub chips : length t.chip.blocks ≡ n
-    pub good : (b : ℕ) → Good p d (held t b).pages
-    pub runs : Runs n p d t.log was t.chip
+    pub chips : length t.chip.blocks ≡ length was.blocks
+    pub good : (b : ℕ) → Good was (held t b).pages
+    pub runs : Runs was t.log was t.chip
     pub there : length (held t c).pages ≡ k
     pub elsewhere : (b : ℕ) → (b ≡ c → ⊥) → (held t b).pages ≡ (held s b).pages
 
-  pub fill_one : (c : ℕ) (q : Page) (s : State) → c < n → length s.chip.blocks ≡ n → ((b : ℕ) → Good p d (held s b).pages) → Runs n p d s.log was s.chip
-      → PageFits d q → length (held s c).pages < p → Filled c (suc (length (held s c).pages)) s (program_page c q s)
+  pub fill_one : (c : ℕ) (q : Page) (s : State) → c < length was.blocks → length s.chip.blocks ≡ length was.blocks → ((b : ℕ) → Good was (held s b).pages) → Runs was s.log was s.chip
+      → PageFits was.d q → length (held s c).pages < was.p → Filled c (suc (length (held s c).pages)) s (program_page c q s)
   unfolding program_page
   fill_one c q s lc ch gd rn lq room =
       let push = length_push (held s c).pages q in
       record {
         chips = length-set s.chip.blocks c _ ∙ ch;
-        good = λ b. set_by (λ (x : Block). Good p d x.pages) s.chip.blocks c b _ no_block (λ _. (omega arith, All-push (PageFits d) (held s c).pages q (gd c).1 lq)) (gd b);
-        runs = runs_push n p d s.log (program c q) was s.chip rn (lc, room, lq.sized);
+        good = λ b. set_by (λ (x : Block). Good was x.pages) s.chip.blocks c b _ no_block (λ _. (omega arith, All-push (PageFits was.d) (held s c).pages q (gd c).1 lq)) (gd b);
+        runs = runs_push was s.log (program c q) was s.chip rn (lc, room, lq.sized);
         there = ap length (pages_same c q s (omega arith)) ∙ omega arith;
         elsewhere = pages_other c q s (omega arith);
       }
 
-  fill : (c : ℕ) (qs : List Page) (s : State) → c < n → length s.chip.blocks ≡ n → ((b : ℕ) → Good p d (held s b).pages) → Runs n p d s.log was s.chip
-      → All (PageFits d) qs → length (held s c).pages + length qs ≤ p → Filled c (length (held s c).pages + length qs) s (copy c qs s)
+  fill : (c : ℕ) (qs : List Page) (s : State) → c < length was.blocks → length s.chip.blocks ≡ length was.blocks → ((b : ℕ) → Good was (held s b).pages) → Runs was s.log was s.chip
+      → All (PageFits was.d) qs → length (held s c).pages + length qs ≤ was.p → Filled c (length (held s c).pages + length qs) s (copy c qs s)
   unfolding copy
   fill c [] s lc ch gd rn lq room = record { chips = ch; good = gd; runs = rn; there = omega arith; elsewhere = λ b ne. refl }
   fill c (q ∷ qs) s lc ch gd rn lq room =
-      let f = fill_one c q s lc ch gd rn (All-head (PageFits d) q qs lq) (omega arith) in
-      let r = fill c qs (program_page c q s) lc f.chips f.good f.runs (All-tail (PageFits d) q qs lq) (omega (arith, f.there)) in
+      let f = fill_one c q s lc ch gd rn (All-head (PageFits was.d) q qs lq) (omega arith) in
+      let r = fill c qs (program_page c q s) lc f.chips f.good f.runs (All-tail (PageFits was.d) q qs lq) (omega (arith, f.there)) in
       record { chips = r.chips; good = r.good; runs = r.runs; there = r.there ∙ omega (arith, f.there); elsewhere = λ b ne. r.elsewhere b ne ∙ f.elsewhere b ne }
 
-  pub fit_put : (b : ℕ) (u : Use) (s : State) → busy u ≡ true → PagesFit n p d was s → PagesFit n p d was (use_block b u s)
+  pub fit_put : (b : ℕ) (u : Use) (s : State) → busy u ≡ true → PagesFit was s → PagesFit was (use_block b u s)
   unfolding use_block
   fit_put b u s hu h = record { chips = h.chips; tables = length-set s.uses b u ∙ h.tables; good = h.good; blanks = λ x f. h.blanks x (set_free s.uses b x u hu f); runs = h.runs }
 
@@ -92,9 +92,9 @@ module _ (n p d : ℕ) (was : Flash) where
     unfolding erase_block
     kept_pages b s x ne = ap (λ (c : Block). c.pages) (get_or-set_other s.chip.blocks b x _ no_block ne)
 
-    erased_good : (b : ℕ) (s : State) → ((x : ℕ) → Good p d (held s x).pages) → (x : ℕ) → Good p d (held (erase_block g b s) x).pages
+    erased_good : (b : ℕ) (s : State) → ((x : ℕ) → Good was (held s x).pages) → (x : ℕ) → Good was (held (erase_block g b s) x).pages
     unfolding erase_block
-    erased_good b s gd x = set_by (λ (c : Block). Good p d c.pages) s.chip.blocks b x _ no_block (λ _. (omega arith, All-nil (PageFits d))) (gd x)
+    erased_good b s gd x = set_by (λ (c : Block). Good was c.pages) s.chip.blocks b x _ no_block (λ _. (omega arith, All-nil (PageFits was.d))) (gd x)
 
     -- a block after the erase of b is blank, if it is b or was blank
     erased_blank : (b : ℕ) (s : State) (x : ℕ) → b < length s.chip.blocks → ((x ≡ b → ⊥) → length (held s x).pages ≡ 0) → length (held (erase_block g b s) x).pages ≡ 0
@@ -103,27 +103,28 @@ module _ (n p d : ℕ) (was : Flash) where
         (λ e. ap length (kept_pages b s x e) ∙ h e)
         (cases_eq x b)
 
-    fit_dead : (b : ℕ) (s : State) → Busy s b → PagesFit n p d was s → PagesFit n p d was (erase_block g b s)
-    fit_dead b s hb h =
-        let ln : b < n = omega (arith, busy_below s b hb, h.tables) in
-        record {
-          chips = unfold erase_block in (length-set s.chip.blocks b _ ∙ h.chips);
-          tables = unfold erase_block in (length-set s.uses b Free ∙ h.tables);
-          good = erased_good b s h.good;
-          blanks = λ x f. erased_blank b s x (omega (arith, h.chips)) (λ e. h.blanks x (unfold erase_block in (sym (get_or-set_other s.uses b x Free Free e) ∙ f)));
-          runs = unfold erase_block in runs_push n p d s.log (erase b) was s.chip h.runs ln;
-        }
+    fit_dead : (b : ℕ) (s : State) → Busy s b → PagesFit was s → PagesFit was (erase_block g b s)
+    fit_dead b s hb h = record {
+      chips = unfold erase_block in (length-set s.chip.blocks b _ ∙ h.chips);
+      tables = unfold erase_block in (length-set s.uses b Free ∙ h.tables);
+      good = erased_good b s h.good;
+      blanks = λ x f. erased_blank b s x (omega (arith, ln, h.chips)) (λ e. h.blanks x (unfold erase_block in (sym (get_or-set_other s.uses b x Free Free e) ∙ f)));
+      runs = unfold erase_block in runs_push was s.log (erase b) was s.chip h.runs ln;
+    }
+      where
+        ln : b < length was.blocks
+        ln = omega (arith, busy_below s b hb, h.tables)
 
     -- the destination is free, and gets as many pages as are live
-    pub fit_move : (b c : ℕ) (u : Use) (s : State) → Busy s b → busy u ≡ true → c < length s.uses → use_of s c ≡ Free → PagesFit n p d was s
-        → PagesFit n p d was (move g b c u s) × (length (held (move g b c u s) c).pages ≡ length (live_pages s b))
+    pub fit_move : (b c : ℕ) (u : Use) (s : State) → Busy s b → busy u ≡ true → c < length s.uses → use_of s c ≡ Free → PagesFit was s
+        → PagesFit was (move g b c u s) × (length (held (move g b c u s) c).pages ≡ length (live_pages s b))
     fit_move b c u s hb hu lc hc h = (
       record {
         chips = unfold move use_block erase_block in (length-set t.chip.blocks b _ ∙ fl.chips);
         tables = ap length (move_uses g b c u s) ∙ length-set freed c u ∙ length-set s.uses b Free ∙ h.tables;
         good = unfold move use_block in erased_good b t fl.good;
         blanks = λ x f. unfold move use_block in erased_blank b t x bc (blank_at x (sym (ap (λ us. get_or us x Free) (move_uses g b c u s)) ∙ f));
-        runs = unfold move use_block erase_block in runs_push n p d t.log (erase b) was t.chip fl.runs bn;
+        runs = unfold move use_block erase_block in runs_push was t.log (erase b) was t.chip fl.runs bn;
       },
       unfold move use_block in (ap length (kept_pages b t c (λ e. busy_not_free s b c hb hc (sym e))) ∙ fl.there ∙ omega (arith, h.blanks c hc)),
     )
@@ -134,11 +135,11 @@ module _ (n p d : ℕ) (was : Flash) where
         freed : List Use
         freed = set s.uses b Free
 
-        bn : b < n
+        bn : b < length was.blocks
         bn = omega (arith, busy_below s b hb, h.tables)
 
         fl : Filled c (length (held s c).pages + length (live_pages s b)) s t
-        fl = fill c (live_pages s b) s (omega (arith, h.tables)) h.chips h.good h.runs (live_all (PageFits d) s.places b 0 (held s b).pages (h.good b).1)
+        fl = fill c (live_pages s b) s (omega (arith, h.tables)) h.chips h.good h.runs (live_all (PageFits was.d) s.places b 0 (held s b).pages (h.good b).1)
             (omega (arith, h.blanks c hc, live_short s b, (h.good b).0))
 
         bc : b < length t.chip.blocks
@@ -150,8 +151,8 @@ module _ (n p d : ℕ) (was : Flash) where
         blank_at : (x : ℕ) → get_or (set freed c u) x Free ≡ Free → (x ≡ b → ⊥) → length (held t x).pages ≡ 0
         blank_at x f e = ap length (fl.elsewhere x (not_c x f)) ∙ h.blanks x (sym (get_or-set_other s.uses b x Free Free e) ∙ set_free freed c x u hu f)
 
-    pub fit_level : (turns : ℕ) (s : State) → PagesFit n p d was s → PagesFit n p d was (level_in turns g s)
+    pub fit_level : (turns : ℕ) (s : State) → PagesFit was s → PagesFit was (level_in turns g s)
     unfolding turn_to end_round
-    fit_level = settle_level g (PagesFit n p d was) (record { by_move = λ b c s hb l f h. (fit_move b c (use_of s b) s hb hb l f h).0; by_dead = λ b s hb e h. fit_dead b s hb h })
+    fit_level = settle_level g (PagesFit was) (record { by_move = λ b c s hb l f h. (fit_move b c (use_of s b) s hb hb l f h).0; by_dead = λ b s hb e h. fit_dead b s hb h })
         (λ i s h. record { chips = h.chips; tables = h.tables; good = h.good; blanks = h.blanks; runs = h.runs })
         (λ s e h. record { chips = h.chips; tables = h.tables; good = h.good; blanks = h.blanks; runs = h.runs })

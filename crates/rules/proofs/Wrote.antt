@@ -21,7 +21,7 @@ use Rattle.rules.proofs.Ends.{Levelled, levelled_write, between_even, level_more
 use Rattle.rules.proofs.Writes.{writes}
 use Rattle.rules.proofs.Mapped.{Holding}
 use Rattle.rules.proofs.Stable.{keeps_make_room, keeps_store}
-use Rattle.rules.proofs.Runs.{Shaped, own_shape, runs_shaped, runs_obeyed, runs_times}
+use Rattle.rules.proofs.Runs.{Shaped, shape, runs_obeyed, runs_times}
 use Rattle.rules.proofs.PagesFit.{Good, PagesFit}
 use Rattle.rules.proofs.Room.{fit_write, gains, fit_close, close_places}
 use Rattle.rules.proofs.Opened.{closes_open, held_write}
@@ -46,13 +46,13 @@ module _ (x : Tables) (f : Flash) (k : WellFormed x f) where
   begin_holding : Holding (begin x f)
   begin_holding = record { valid = k.named; long = sym k.uses_each }
 
-  begin_fits : ChipFits f → PagesFit (length f.blocks) f.p f.d f (begin x f)
+  begin_fits : ChipFits f → PagesFit f (begin x f)
   begin_fits c = record {
     chips = refl;
     tables = k.uses_each;
     good = λ b. ⊎_elim
         (λ l. ((c.each b l).filled, All-from_get_or (PageFits f.d) (block f b).pages no_page (c.each b l).each))
-        (λ l. subst (λ (y : Block). Good f.p f.d y.pages) (sym (get_or_past f.blocks b no_block l)) (omega arith, All-nil (PageFits f.d)))
+        (λ l. subst (λ (y : Block). Good f y.pages) (sym (get_or_past f.blocks b no_block l)) (omega arith, All-nil (PageFits f.d)))
         (cases_lt b (length f.blocks));
     blanks = k.free_blank;
     runs = refl;
@@ -62,7 +62,7 @@ module _ (x : Tables) (f : Flash) (k : WellFormed x f) where
 pub record Wrote (x : Tables) (f : Flash) (t : State) : Type 0 where
   pub ready : Ready x.settings (length f.blocks) (length x.meter.flags) t
   pub between : Between x.settings t
-  pub fit : PagesFit (length f.blocks) f.p f.d f t
+  pub fit : PagesFit f t
   pub one : OneOpen t
   pub holding : Holding t
   pub booked : Booked x.settings.logical (length f.blocks) t
@@ -107,7 +107,7 @@ module _ (r : BlockOrder) (x : Tables) (f : Flash) (k : WellFormed x f) (t : ℕ
         record {
           ready = ended.ready;
           between = ended.between;
-          fit = fit_write x.settings n f.p f.d x.settings.logical f num.some_pages num.few_pages refl num.room r vo (suc m) q (begin x f)
+          fit = fit_write x.settings f num r vo (suc m) q (begin x f)
               (record { tagged = omega (arith, tl, num.tags); sized = bl }) k.places_each k.one_open (begin_fits x f k c);
           one = held.0;
           holding = held.1;
@@ -120,7 +120,7 @@ module _ (r : BlockOrder) (x : Tables) (f : Flash) (k : WellFormed x f) (t : ℕ
     wrote = subst (Wrote x f) (sym level_is) in_level
 
 -- the same settings fit a chip of the same shape
-fitting_shaped : (g : Settings) (f h : Flash) → Shaped (length f.blocks) f.p f.d f.e h → Fitting g f → Fitting g h
+fitting_shaped : (g : Settings) (f h : Flash) → Shaped f h → Fitting g f → Fitting g h
 fitting_shaped g f h s q = record {
   sizes = ap within (λ i. record { blocks = s.blocks_are i; pages = s.p_is i; size = s.d_is i; rated = s.e_is i }) ∙ q.sizes;
   sets = ap (λ n. leb g.k 8 && eqb (n % set_size g) 0) s.blocks_are ∙ q.sets;
@@ -129,12 +129,12 @@ fitting_shaped g f h s q = record {
 }
 
 module _ (x : Tables) (f : Flash) (k : WellFormed x f) (c : ChipFits f) (t : State) (w : Wrote x f t) where
-  shape : Shaped (length f.blocks) f.p f.d f.e t.chip
-  shape = runs_shaped (length f.blocks) f.p f.d (length f.blocks) f.p f.d f.e t.log f t.chip w.fit.runs (own_shape f)
+  shaped : Shaped f t.chip
+  shaped = shape t.log f t.chip w.fit.runs
 
   pub wrote_well : WellFormed (tables_of x.settings t) t.chip
   wrote_well = record {
-    fitting = fitting_shaped x.settings f t.chip shape k.fitting;
+    fitting = fitting_shaped x.settings f t.chip shaped k.fitting;
     uses_each = w.fit.tables ∙ sym w.fit.chips;
     marks_each = w.booked.marked ∙ sym w.fit.chips;
     places_each = w.booked.mapped;
@@ -156,23 +156,21 @@ module _ (x : Tables) (f : Flash) (k : WellFormed x f) (c : ChipFits f) (t : Sta
     few = omega (arith, c.few, w.fit.chips);
     each = λ b l. (let l' : b < length f.blocks = omega (arith, w.fit.chips) in
         record {
-          worn = omega (arith, (w.most b).1, not_worn f c nw b l', shape.e_is);
-          filled = omega (arith, (w.fit.good b).0, shape.p_is);
-          each = λ i q. subst (λ d. PageFits d (get_or (block t.chip b).pages i no_page)) (sym shape.d_is) ((w.fit.good b).1 i no_page q);
+          worn = omega (arith, (w.most b).1, not_worn f c nw b l', shaped.e_is);
+          filled = omega (arith, (w.fit.good b).0, shaped.p_is);
+          each = λ i q. subst (λ d. PageFits d (get_or (block t.chip b).pages i no_page)) (sym shaped.d_is) ((w.fit.good b).1 i no_page q);
         });
   }
 
   pub wrote_obeyed : is_worn f ≡ false → obeyed t.log f ≡ Some t.chip
-  wrote_obeyed nw = runs_obeyed (length f.blocks) f.p f.d f.e (λ b. (block f b).count) (not_worn f c nw) t.log f t.chip (own_shape f) w.fit.runs (λ b. omega arith) (λ b. (w.most b).1)
+  wrote_obeyed nw = runs_obeyed f (λ b. (block f b).count) (not_worn f c nw) t.log f t.chip (record { blocks_are = refl; p_is = refl; d_is = refl; e_is = refl }) w.fit.runs (λ b. omega arith) (λ b. (w.most b).1)
 
   pub wrote_once : (b : ℕ) → times_erased b t.log ≤ 1
-  wrote_once b = omega (arith, runs_times (length f.blocks) f.p f.d t.log f t.chip refl w.fit.runs b, (w.most b).1)
+  wrote_once b = omega (arith, runs_times f t.log f t.chip refl w.fit.runs b, (w.most b).1)
 
 -- a cleaning gains
 pub cleaning : (r : BlockOrder) → VictimOrder r → (x : Tables) (f : Flash) → ChipFits f → WellFormed x f → (d : ℕ) → blocks_in Free (close_open (begin x f)) ≡ d ∷ []
     → (v : BlockRecord) × (first r (records Closed (close_open (begin x f))) ≡ Some v) × (length (live_pages (close_open (begin x f)) v.number) < f.p)
 cleaning r vo x f c k d e =
-    let num = in_numbers x.settings f k.fitting in
     let s = begin x f in
-    gains x.settings (length f.blocks) f.p f.d x.settings.logical f num.some_pages num.few_pages refl num.room r vo (close_open s)
-    (fit_close (length f.blocks) f.p f.d f s (begin_fits x f k c)) (close_places s ∙ k.places_each) (closes_open s k.one_open) num.two_blocks d e
+    gains x.settings f (in_numbers x.settings f k.fitting) r vo (close_open s) (fit_close f s (begin_fits x f k c)) (close_places s ∙ k.places_each) (closes_open s k.one_open) d e
