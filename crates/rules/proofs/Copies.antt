@@ -1,6 +1,6 @@
 -- Copying the live pages of a block leaves none of them named there, and all named pages written.
-use Rattle.std.proofs.Common.{◌≡◌, ℕ, suc, ◌+◌, ◌<◌, ◌≤◌, true, false, List, [], ◌∷◌, ◌++◌, length, get_or, Some, None, Option, ⊎_elim, sym, refl, ap, ◌∙◌, subst, arith}
-use Rattle.std.proofs.lemmas.List.{length-set, get_or-set_same, get_or-set_other, length_push, get_or_push, get_or_append_left, get_or_past}
+use Rattle.std.proofs.Common.{◌≡◌, ℕ, suc, ◌+◌, ◌<◌, ◌≤◌, true, false, List, [], ◌∷◌, ◌++◌, length, drop, get_or, Some, None, Option, ⊎_elim, sym, refl, ap, ◌∙◌, subst, arith}
+use Rattle.std.proofs.lemmas.List.{length-set, length-drop, get_or-drop, drop-drop, get_or-set_same, get_or-set_other, length_push, get_or_push, get_or_append_left, get_or_past}
 use Rattle.std.proofs.lemmas.Bool.{true≢false, cases_eq, cases_lt, cond_both}
 use Rattle.std.proofs.lemmas.Option.{same_Some}
 use Rattle.std.proofs.lemmas.Bool.Decides.{nat_tests}
@@ -83,8 +83,7 @@ module _ (d : ℕ) (q : Page) (s : State) (in_chip : d < length s.chip.blocks) w
 record Copying (m : List (Option Place)) (b d : ℕ) (rest : List Page) (i : ℕ) (s : State) : Type 0 where
   in_chip : d < length s.chip.blocks
   mapped : length s.places ≡ length m
-  found : (k : ℕ) → k < length rest → page_at s b (i + k) ≡ get_or rest k no_page
-  long : length (held s b).pages ≡ i + length rest
+  rest_is : drop i (held s b).pages ≡ rest
   left : (t k : ℕ) → Named s t b k → (i ≤ k) × (get_or m t None ≡ Some (at b k))
   valid : Valid s
 
@@ -99,10 +98,10 @@ program_places d q s = length-set s.places q.tag _
 module _ (m : List (Option Place)) (b d : ℕ) (ne : b ≡ d → ⊥) where
   module _ (q : Page) (qs : List Page) (i : ℕ) (s : State) (c : Copying m b d (q ∷ qs) i s) where
     q_is : page_at s b i ≡ q
-    q_is = ap (page_at s b) (omega arith) ∙ c.found 0 (omega arith)
+    q_is = ap (page_at s b) (omega arith) ∙ sym (get_or-drop i (held s b).pages 0 no_page) ∙ ap (λ (ps : List Page). get_or ps 0 no_page) c.rest_is
 
-    later : (k : ℕ) → k < length qs → page_at s b (suc i + k) ≡ get_or qs k no_page
-    later k l = ap (page_at s b) (omega arith) ∙ c.found (suc k) (omega arith)
+    later : drop (suc i) (held s b).pages ≡ qs
+    later = let e : suc i ≡ i + 1 = omega arith in ap (λ k. drop k (held s b).pages) e ∙ sym (drop-drop 1 i (held s b).pages) ∙ ap (drop 1) c.rest_is
 
     -- the tag of the page at i is q's
     tag_at : (t k : ℕ) → Named s t b k → k ≡ i → t ≡ q.tag
@@ -119,8 +118,7 @@ module _ (m : List (Option Place)) (b d : ℕ) (ne : b ≡ d → ⊥) where
         record {
           in_chip = omega (arith, c.in_chip, program_blocks d q s);
           mapped = program_places d q s ∙ c.mapped;
-          found = λ k l. ap (λ (ps : List Page). get_or ps (suc i + k) no_page) same ∙ later k l;
-          long = ap length same ∙ c.long ∙ omega arith;
+          rest_is = ap (drop (suc i)) same ∙ later;
           left = λ t k h.
               (let h₀ : Named s t b k = sym (place_other d q s c.in_chip t (other t k h)) ∙ h in
               let w = c.left t k h₀ in
@@ -134,8 +132,7 @@ module _ (m : List (Option Place)) (b d : ℕ) (ne : b ≡ d → ⊥) where
     passed e = record {
       in_chip = c.in_chip;
       mapped = c.mapped;
-      found = later;
-      long = c.long ∙ omega arith;
+      rest_is = later;
       left = λ t k h.
           (let w = c.left t k h in
           let ki : k ≡ i → ⊥ = λ z. names_not (get_or m q.tag None) b i e (ap (λ y. get_or m y None) (sym (tag_at t k h z)) ∙ w.1 ∙ ap (λ y. Some (at b y)) z) in
@@ -145,7 +142,7 @@ module _ (m : List (Option Place)) (b d : ℕ) (ne : b ≡ d → ⊥) where
 
   copying : (rest : List Page) (i : ℕ) (s : State) → Copying m b d rest i s → Copied b (copy d (live_from m b i rest) s)
   unfolding copy
-  copying [] i s c = record { valid = c.valid; gone = λ u k h. omega (arith, (c.left u k h).0, (c.valid u b k h).0, c.long) }
+  copying [] i s c = record { valid = c.valid; gone = λ u k h. omega (arith, (c.left u k h).0, (c.valid u b k h).0, length-drop i (held s b).pages, ap length c.rest_is) }
   copying (q ∷ qs) i s c = cond_both (names (get_or m q.tag None) b i) (q ∷ live_from m b (suc i) qs) (live_from m b (suc i) qs) (λ ps. Copied b (copy d ps s))
       (λ e. copying qs (suc i) (program_page d q s) (copied q qs i s c e)) (λ e. copying qs (suc i) s (passed q qs i s c e))
 
@@ -154,8 +151,7 @@ pub copies : (b d : ℕ) (s : State) → (b ≡ d → ⊥) → d < length s.chip
 copies b d s ne l v = copying s.places b d ne (held s b).pages 0 s (record {
   in_chip = l;
   mapped = refl;
-  found = λ k h. ap (page_at s b) (omega arith);
-  long = omega arith;
+  rest_is = refl;
   left = λ t k h. (omega arith, h);
   valid = v;
 })

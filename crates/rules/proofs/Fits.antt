@@ -12,47 +12,41 @@ use Rattle.rules.specs.Calls.{sets_fit, is_worn}
 use Rattle.rules.specs.WellFormed.{Fitting}
 
 pub between_is : (low n high : ℕ) → between low n high ≡ true → (low ≤ n) × (n ≤ high)
-between_is low n high h = let p = and_parts (leb low n) (leb n high) h in (grind (arith, nat_tests), grind (arith, nat_tests))
-
--- the room law, with no difference in it
-room_of : (n p l : ℕ) → 1 ≤ l → l ≤ (n - 1) * p - 1 → l + p < n * p
-room_of zero p l h q = absurd (omega arith)
-room_of (suc n) p l h q = let e : suc n - 1 ≡ n = omega arith in let q' : l ≤ n * p - 1 = subst (λ k. l ≤ k * p - 1) e q in omega arith
+between_is low n high h = (grind (arith, nat_tests), grind (arith, nat_tests))
 
 pub record InNumbers (g : Settings) (f : Flash) : Type 0 where
   pub two_blocks : 2 ≤ length f.blocks
-  pub few_blocks : length f.blocks ≤ 256
   pub some_pages : 1 ≤ f.p
   pub few_pages : f.p ≤ 64
   pub threshold : 1 ≤ g.threshold
-  pub some_logical : 1 ≤ g.logical
   pub room : g.logical + f.p < length f.blocks * f.p
   pub tags : g.logical < 65536
 
+-- the room law, with no difference in it
+room_of : (n p l : ℕ) → (1 ≤ l) × (l ≤ (n - 1) * p - 1) → l + p < n * p
+room_of zero p l h = absurd (omega (arith, h.0, h.1))
+room_of (suc n) p l h = let e : suc n - 1 ≡ n = omega arith in let q : l ≤ n * p - 1 = subst (λ k. l ≤ k * p - 1) e h.1 in omega (arith, h.0)
+
 pub in_numbers : (g : Settings) (f : Flash) → Fitting g f → InNumbers g f
 in_numbers g f h =
-    let a = and_parts (between 2 (length f.blocks) 256) (between 1 f.p 64 && (between 1 f.d 512 && between 1 f.e 1000000)) h.sizes in
-    let b = and_parts (between 1 f.p 64) (between 1 f.d 512 && between 1 f.e 1000000) a.1 in
-    let n = between_is 2 (length f.blocks) 256 a.0 in
-    let p = between_is 1 f.p 64 b.0 in
     let l = between_is 1 g.logical ((length f.blocks - 1) * f.p - 1) h.logical in
-    let few : length f.blocks - 1 ≤ 255 = omega (arith, n.1) in
+    let sizes = h.sizes in
+    let few : length f.blocks - 1 ≤ 255 = grind (arith, nat_tests) in
+    let pages : f.p ≤ 64 = grind (arith, nat_tests) in
     record {
-      two_blocks = n.0;
-      few_blocks = n.1;
-      some_pages = p.0;
-      few_pages = p.1;
+      two_blocks = grind (arith, nat_tests);
+      some_pages = grind (arith, nat_tests);
+      few_pages = pages;
       threshold = (between_is 1 g.threshold 1000 h.threshold).0;
-      some_logical = l.0;
-      room = room_of (length f.blocks) f.p g.logical l.0 l.1;
-      tags = omega (arith, l.1, mul-le-mul_right f.p few, p.1);
+      room = room_of (length f.blocks) f.p g.logical l;
+      tags = omega (arith, l.1, mul-le-mul_right f.p few);
     }
 
 -- the sets make up the chip
 pub sets_whole : (g : Settings) (f : Flash) → sets_fit f g ≡ true → length f.blocks ≡ (length f.blocks / set_size g) * set_size g
 sets_whole g f h =
-    let p = and_parts (leb g.k 8) (eqb (length f.blocks % set_size g) 0) h in
-    omega (arith, div-add-mod' (length f.blocks) (set_size g), eqb-true (length f.blocks % set_size g) 0 p.1)
+    let e : length f.blocks % set_size g ≡ 0 = grind (arith, nat_tests) in
+    omega (arith, div-add-mod' (length f.blocks) (set_size g))
 
 -- what no block passes
 pub none_passes : (p : Block → Bool) (xs : List Block) → list_any p xs ≡ false → (b : ℕ) → b < length xs → p (get_or xs b no_block) ≡ false
