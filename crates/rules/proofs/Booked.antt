@@ -9,7 +9,7 @@ use Rattle.rules.specs.Tables.{State}
 use Rattle.rules.specs.Steps.{use_block, program_page, count_erase, erase_block}
 use Rattle.rules.specs.Levelling.{turn_to, end_round, level_in}
 use Rattle.rules.specs.WellFormed.{erases_of}
-use Rattle.rules.proofs.Words.{held}
+use Rattle.rules.proofs.StateFacts.{held}
 use Rattle.rules.proofs.AfterSet.{set_by}
 use Rattle.rules.proofs.InUse.{busy_below}
 use Rattle.rules.proofs.Levels.{not_even}

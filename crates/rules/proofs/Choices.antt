@@ -12,7 +12,7 @@ use Rattle.rules.specs.Blocks.{BlockOrder, use_of, blocks_in, live_pages, record
 use Rattle.rules.specs.Steps.{use_block, program_page, erase_block, move, clean, close_open, open_first, open_next, make_room, store}
 use Rattle.rules.specs.Levelling.{clear_out, collect_block, end_round, even, collect_next, level_in}
 use Rattle.rules.specs.WellFormed.{busy}
-use Rattle.rules.proofs.Words.{held, NoOpen, NoneIn}
+use Rattle.rules.proofs.StateFacts.{held, NoOpen, NoneIn}
 use Rattle.rules.proofs.InUse.{Contains-one, in_use, has_use, free_rises, first_in, open_in}
 
 module _ (P : State → Type 0) (s : State) where

@@ -9,7 +9,7 @@ use Rattle.rules.specs.declared.Place.{Place}
 use Rattle.rules.specs.Tables.{State}
 use Rattle.rules.specs.Blocks.{names, live_from, live_pages}
 use Rattle.rules.specs.Steps.{program_page, copy}
-use Rattle.rules.proofs.Words.{held}
+use Rattle.rules.proofs.StateFacts.{held}
 use Rattle.rules.proofs.AfterSet.{set_by}
 use Rattle.rules.proofs.Frame.{program_blocks}
 

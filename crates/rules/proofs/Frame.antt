@@ -8,7 +8,7 @@ use Rattle.rules.specs.declared.Use.TheVariants.{Free}
 use Rattle.rules.specs.Tables.{State, set_size}
 use Rattle.rules.specs.Blocks.{live_pages}
 use Rattle.rules.specs.Steps.{use_block, program_page, count_erase, erase_block, copy, move}
-use Rattle.rules.proofs.Words.{counted}
+use Rattle.rules.proofs.StateFacts.{counted}
 use Rattle.rules.proofs.AfterSet.{set_by}
 
 pub program_counted : (d : ℕ) (q : Page) (s : State) (x : ℕ) → counted (program_page d q s) x ≡ counted s x

@@ -12,7 +12,7 @@ use Rattle.rules.specs.declared.Use.TheVariants.{Free, Open, Closed}
 use Rattle.rules.specs.Tables.{State}
 use Rattle.rules.specs.Blocks.{BlockOrder, same_use, use_of, blocks_in, record_of, records, better, first, open_block}
 use Rattle.rules.specs.WellFormed.{busy}
-use Rattle.rules.proofs.Words.{Busy, NoOpen, NoneIn}
+use Rattle.rules.proofs.StateFacts.{Busy, NoOpen, NoneIn}
 
 pub busy_below : (s : State) (b : ℕ) → Busy s b → b < length s.uses
 busy_below s b h = ⊎_elim (λ l. l) (λ l. absurd (true≢false (sym h ∙ ap busy (get_or_past s.uses b Free l)))) (cases_lt b (length s.uses))

@@ -11,7 +11,7 @@ use Rattle.rules.specs.Blocks.{use_of}
 use Rattle.rules.specs.Steps.{use_block, program_page, count_erase, erase_block}
 use Rattle.rules.specs.Levelling.{set_blocks, sought, turn_to, end_round, even, collect_next}
 use Rattle.rules.specs.WellFormed.{ones}
-use Rattle.rules.proofs.Words.{Freed, Sized, Ready, some_size, set_of}
+use Rattle.rules.proofs.StateFacts.{Freed, Sized, Ready, some_size, set_of}
 use Rattle.rules.proofs.AfterSet.{set_by, set_free}
 use Rattle.rules.proofs.InUse.{busy_below, busy_of}
 use Rattle.rules.proofs.Stable.{Stable, stable_settled, settle_collect}

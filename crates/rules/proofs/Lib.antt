@@ -1,4 +1,4 @@
-pub mod Words
+pub mod StateFacts
 pub mod AfterSet
 pub mod InUse
 pub mod Choices
@@ -13,11 +13,10 @@ pub mod Copies
 pub mod Mapped
 pub mod Opened
 pub mod Once
-pub mod Grows
 pub mod Runs
 pub mod PagesFit
-pub mod Picks
-pub mod Crowds
+pub mod Victim
+pub mod LivePages
 pub mod Fits
 pub mod Room
 pub mod Booked

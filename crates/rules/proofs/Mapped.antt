@@ -11,7 +11,7 @@ use Rattle.rules.specs.Tables.{State}
 use Rattle.rules.specs.Blocks.{use_of, names, live_from, live_pages}
 use Rattle.rules.specs.Steps.{use_block, erase_block, move}
 use Rattle.rules.specs.Levelling.{turn_to, end_round, level_in}
-use Rattle.rules.proofs.Words.{held}
+use Rattle.rules.proofs.StateFacts.{held}
 use Rattle.rules.proofs.InUse.{busy_not_free}
 use Rattle.rules.proofs.Frame.{copy_uses, copy_blocks}
 use Rattle.rules.proofs.Stable.{settle_level}

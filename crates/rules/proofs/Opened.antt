@@ -11,7 +11,7 @@ use Rattle.rules.specs.Blocks.{BlockOrder, use_of}
 use Rattle.rules.specs.Steps.{use_block, program_page, erase_block, move, close_open, make_room, store}
 use Rattle.rules.specs.Levelling.{turn_to, end_round, level_in}
 use Rattle.rules.specs.WellFormed.{busy}
-use Rattle.rules.proofs.Words.{SomeFree, Ready, NoOpen, NoneIn, OneOpen, HasOpen}
+use Rattle.rules.proofs.StateFacts.{SomeFree, Ready, NoOpen, NoneIn, OneOpen, HasOpen}
 use Rattle.rules.proofs.AfterSet.{set_by}
 use Rattle.rules.proofs.InUse.{busy_below, busy_not_free}
 use Rattle.rules.proofs.Choices.{close_open_by, store_by, clean_by, open_next_by, make_room_by}

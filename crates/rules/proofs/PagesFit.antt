@@ -13,7 +13,7 @@ use Rattle.rules.specs.Blocks.{use_of, names, live_from, live_pages}
 use Rattle.rules.specs.Steps.{use_block, program_page, erase_block, copy, move}
 use Rattle.rules.specs.Levelling.{turn_to, end_round, level_in}
 use Rattle.rules.specs.WellFormed.{busy}
-use Rattle.rules.proofs.Words.{held, Busy}
+use Rattle.rules.proofs.StateFacts.{held, Busy}
 use Rattle.rules.proofs.AfterSet.{set_by, set_free}
 use Rattle.rules.proofs.InUse.{busy_below, busy_not_free}
 use Rattle.rules.proofs.Frame.{move_uses}

@@ -1,5 +1,5 @@
 -- A cleaning takes a block that is not all live, so that the open block has room for the page to write.
-use Rattle.std.proofs.Common.{◌≡◌, ℕ, ◌+◌, ◌*◌, ◌<◌, ◌≤◌, true, not, [], ◌∷◌, length, IfSome, Contains, Some, ⊎_elim, sym, refl, ap, ◌∙◌, subst, arith}
+use Rattle.std.proofs.Common.{◌≡◌, ℕ, ◌<◌, ◌≤◌, true, not, [], ◌∷◌, length, IfSome, Contains, Some, ⊎_elim, sym, refl, ap, ◌∙◌, subst, arith}
 use Rattle.std.proofs.lemmas.Bool.{true≢false, cases_lt}
 use Rattle.std.proofs.lemmas.List.Elements.{All-contains}
 use Rattle.std.proofs.lemmas.Option.{IfSome_then}
@@ -13,14 +13,14 @@ use Rattle.rules.specs.Steps.{use_block, program_page, move, clean, close_open, 
 use Rattle.rules.specs.Levelling.{level_in}
 use Rattle.rules.specs.Laws.{VictimOrder}
 use Rattle.rules.specs.WellFormed.{busy}
-use Rattle.rules.proofs.Words.{held, NoOpen, OneOpen}
+use Rattle.rules.proofs.StateFacts.{held, NoOpen, OneOpen}
 use Rattle.rules.proofs.AfterSet.{set_by}
 use Rattle.rules.proofs.InUse.{Contains-one, has_use, first_in}
 use Rattle.rules.proofs.Choices.{close_open_by, store_by, clean_by, open_next_by, make_room_by}
 use Rattle.rules.proofs.Opened.{moved_open, closes_open, others_closed, some_closed}
 use Rattle.rules.proofs.Fits.{InNumbers}
-use Rattle.rules.proofs.Crowds.{crowd, sums_but}
-use Rattle.rules.proofs.Picks.{Leads, Leader, leads}
+use Rattle.rules.proofs.LivePages.{crowd, sums_but}
+use Rattle.rules.proofs.Victim.{Leads, Leader, leads}
 use Rattle.rules.proofs.Runs.{shape}
 use Rattle.rules.proofs.PagesFit.{PagesFit, live_short, fill_one, fit_put, fit_move, fit_level}
 

@@ -10,7 +10,7 @@ use Rattle.rules.specs.Blocks.{BlockOrder, use_of, live_pages}
 use Rattle.rules.specs.Steps.{use_block, program_page, erase_block, copy, move, close_open, make_room, store}
 use Rattle.rules.specs.Levelling.{set_blocks, collect_block, collect, sought, turn_to, end_round, even, collect_next, level_in}
 use Rattle.rules.specs.WellFormed.{busy}
-use Rattle.rules.proofs.Words.{Busy}
+use Rattle.rules.proofs.StateFacts.{Busy}
 use Rattle.rules.proofs.Frame.{copy_uses}
 use Rattle.rules.proofs.Choices.{close_open_by, store_by, clean_by, open_next_by, make_room_by, collect_block_by, level_in_by}
 

@@ -10,7 +10,7 @@ use Rattle.rules.specs.Tables.{Meter, State, set_size}
 use Rattle.rules.specs.Blocks.{BlockOrder, use_of, blocks_in}
 use Rattle.rules.specs.Steps.{use_block, program_page, count_erase, move, close_open, open_next, make_room, store}
 use Rattle.rules.specs.WellFormed.{busy}
-use Rattle.rules.proofs.Words.{Busy, Ready, set_of}
+use Rattle.rules.proofs.StateFacts.{Busy, Ready, set_of}
 use Rattle.rules.proofs.AfterSet.{set_free}
 use Rattle.rules.proofs.InUse.{busy_below, busy_not_free}
 use Rattle.rules.proofs.Choices.{close_open_by, store_by, clean_by, open_next_by, make_room_by}

@@ -16,7 +16,7 @@ use Rattle.rules.specs.Calls.{is_worn, writing}
 use Rattle.rules.specs.Obeyed.{obeyed}
 use Rattle.rules.specs.WellFormed.{Fitting, WellFormed}
 use Rattle.rules.specs.Laws.{VictimOrder, before_levelling, times_erased}
-use Rattle.rules.proofs.Words.{counted, Ready, Between, OneOpen}
+use Rattle.rules.proofs.StateFacts.{counted, Ready, Between, OneOpen}
 use Rattle.rules.proofs.Ends.{Levelled, levelled_write, between_even, level_more}
 use Rattle.rules.proofs.Writes.{writes}
 use Rattle.rules.proofs.Mapped.{Holding}
@@ -25,7 +25,7 @@ use Rattle.rules.proofs.Runs.{Shaped, shape, runs_obeyed, runs_times}
 use Rattle.rules.proofs.PagesFit.{Good, PagesFit}
 use Rattle.rules.proofs.Room.{fit_write, gains, fit_close, close_places}
 use Rattle.rules.proofs.Opened.{closes_open, held_write}
-use Rattle.rules.proofs.Grows.{grows}
+use Rattle.rules.proofs.Once.{grows}
 use Rattle.rules.proofs.Booked.{Booked, booked_stable, booked_level}
 use Rattle.rules.proofs.Fits.{InNumbers, in_numbers, not_worn}
 
@@ -61,7 +61,7 @@ module _ (x : Tables) (f : Flash) (k : WellFormed x f) where
 -- a whole write
 pub record Wrote (x : Tables) (f : Flash) (t : State) : Type 0 where
   pub ready : Ready x.settings (length f.blocks) (length x.meter.flags) t
-  pub between : Between x.settings t
+  pub between : Between x.settings t.meter
   pub fit : PagesFit f t
   pub one : OneOpen t
   pub holding : Holding t
@@ -88,7 +88,7 @@ module _ (r : BlockOrder) (x : Tables) (f : Flash) (k : WellFormed x f) (t : ℕ
   pub ends : (even x.settings (level x.settings (before_levelling r x f t bytes)).meter ≡ true)
       × ((turns : ℕ) → suc (length (before_levelling r x f t bytes).meter.flags) ≤ turns → level_in turns x.settings (before_levelling r x f t bytes) ≡ level x.settings (before_levelling r x f t bytes))
   ends =
-      let e = between_even x.settings (level_in (suc m) x.settings (before_levelling r x f t bytes)) ended.between in
+      let e = between_even x.settings (level_in (suc m) x.settings (before_levelling r x f t bytes)).meter ended.between in
       let flags = (writes x.settings n m r q (begin x f) (begin_ready x f k)).ready.sized.flagged in (
         ap (λ (s : State). even x.settings s.meter) level_is ∙ e,
         λ turns l. level_more x.settings (suc m) turns (before_levelling r x f t bytes) (omega (arith, flags)) e ∙ sym level_is,

@@ -1,6 +1,6 @@
 -- The one outcome of each call of a leveller, for all arguments: start, write, read, discard.
 -- A call tries its refusals in rising number; the first that applies is its answer, and all is as it was.
-use Rattle.std.specs.Prelude.{ℕ, ◌-◌, ◌*◌, ◌/◌, ◌%◌, Bool, true, false, not, ◌&&◌, List, [], ◌∷◌, length, replicate, is_some, Some, None, Ok, Err, sum_by, Option, ◌==◌, nat_eq, nat_le, nat_lt, slice_index_or, slice_set}
+use Rattle.std.specs.Prelude.{ℕ, ◌-◌, ◌*◌, ◌/◌, ◌%◌, Bool, true, false, not, ◌&&◌, List, [], ◌∷◌, length, replicate, is_some, Some, None, Ok, Err, count_by, Option, ◌==◌, nat_eq, nat_le, nat_lt, slice_index_or, slice_set}
 use Rattle.std.specs.List.{list_any}
 use Rattle.flash.specs.Limits.{between, within}
 use Rattle.flash.specs.Meaning.{Flash, Op, program, erase, page, page_of, geometry_of}
@@ -91,17 +91,13 @@ write_checks g f t bytes =
 unfoldable pub writing : Settings → BlockOrder → ℕ → List ℕ → State → State
 writing g r t bytes s = level g (store (page_of t bytes) (make_room g r s))
 
-abbrev pub erase_of : Op → ℕ
-erase_of (program b q) = 0
-erase_of (erase b) = 1
-
-abbrev pub program_of : Op → ℕ
-program_of (program b q) = 1
-program_of (erase b) = 0
+abbrev pub is_erase : Op → Bool
+is_erase (program b q) = false
+is_erase (erase b) = true
 
 -- What a write answers, by its operations: each program but the write's own is a copy.
 abbrev pub written : List Op → Written
-written os = record { erases = sum_by erase_of os; copied = sum_by program_of os - 1 }
+written os = record { erases = count_by is_erase os; copied = count_by (λ o. not (is_erase o)) os - 1 }
 
 abbrev pub write_done : Settings → List ℕ → State → Outcome Written
 write_done g bytes s = record { answer = Ok (written s.log); tables = Some (tables_of g s); chip = s.chip; buffer = bytes; operations = s.log }

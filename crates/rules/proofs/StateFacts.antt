@@ -4,7 +4,7 @@ use Rattle.flash.specs.Meaning.{Block, block}
 use Rattle.rules.specs.declared.Settings.{Settings}
 use Rattle.rules.specs.declared.Use.{Use}
 use Rattle.rules.specs.declared.Use.TheVariants.{Free, Open}
-use Rattle.rules.specs.Tables.{State, set_size}
+use Rattle.rules.specs.Tables.{Meter, State, set_size}
 use Rattle.rules.specs.Blocks.{use_of}
 use Rattle.rules.specs.WellFormed.{ones, busy}
 
@@ -51,8 +51,8 @@ abbrev pub Freed : Settings → ℕ → State → Type 0
 Freed g n s = (x : ℕ) → x < n → get_or s.uses x Free ≡ Free → get_or s.meter.flags (x / set_size g) false ≡ true
 
 -- the counters between calls
-abbrev pub Between : Settings → State → Type 0
-Between g s = ((s.meter.fcnt ≡ 0) × (s.meter.ecnt ≡ 0)) ⊎ ((1 ≤ s.meter.fcnt) × (s.meter.ecnt < g.threshold * s.meter.fcnt))
+abbrev pub Between : Settings → Meter → Type 0
+Between g m = ((m.fcnt ≡ 0) × (m.ecnt ≡ 0)) ⊎ ((1 ≤ m.fcnt) × (m.ecnt < g.threshold * m.fcnt))
 
 -- what a started leveller keeps, in a call too
 pub record Ready (g : Settings) (n m : ℕ) (s : State) : Type 0 where
