@@ -15,7 +15,7 @@ use Rattle.rules.proofs.StateFacts.{Busy, SomeFree}
 use Rattle.rules.proofs.AfterSet.{set_by}
 use Rattle.rules.proofs.InUse.{busy_below, busy_not_free}
 use Rattle.rules.proofs.Choices.{collect_block_by}
-use Rattle.rules.proofs.Frame.{move_uses, move_meter}
+use Rattle.rules.proofs.Frame.{moved_use, move_long, move_meter}
 
 -- what the erase of b in a collection leaves
 pub record After (g : Settings) (b : ℕ) (s t : State) : Type 0 where
@@ -31,19 +31,13 @@ after_erase g b s h = record {
   some = (b, omega (arith, length-set s.uses b Free, busy_below s b h), get_or-set_same s.uses b Free Free (busy_below s b h));
 }
 
-pub after_move : (g : Settings) (b d : ℕ) (u : Use) (s : State) → busy u ≡ true → Busy s b → use_of s d ≡ Free → After g b s (move g b d u s)
-after_move g b d u s hu hb hd =
-    let e = move_uses g b d u s in
-    let freed = set s.uses b Free in
+pub after_move : (g : Settings) (b d : ℕ) (u : Use) (s : State) → busy u ≡ true → Busy s b → d < length s.uses → use_of s d ≡ Free → After g b s (move g b d u s)
+after_move g b d u s hu hb ld hd =
     let l = busy_below s b hb in
     record {
       meter_is = move_meter g b d u s;
-      others = λ x n k. ap (λ us. busy (get_or us x Free)) e ∙ set_by (λ v. busy v ≡ true) freed d x u Free (λ _. hu) (ap busy (get_or-set_other s.uses b x Free Free n) ∙ k);
-      some = (
-        b,
-        omega (arith, ap length e, length-set freed d u, length-set s.uses b Free),
-        ap (λ us. get_or us b Free) e ∙ get_or-set_other freed d b u Free (busy_not_free s b d hb hd) ∙ get_or-set_same s.uses b Free Free l,
-      );
+      others = λ x n k. moved_use (λ v. busy v ≡ true) g b d u s x l ld (λ _. hu) (λ _ e. absurd (n e)) (λ _ _. k);
+      some = (b, omega (arith, move_long g b d u s), moved_use (λ v. v ≡ Free) g b d u s b l ld (λ e. absurd (busy_not_free s b d hb hd e)) (λ _ _. refl) (λ _ n. absurd (n refl)));
     }
 
 after_collect_block : (g : Settings) (b : ℕ) (s : State) → Busy s b → SomeFree s → After g b s (collect_block g b s)
@@ -51,7 +45,7 @@ after_collect_block g b s hb sf = collect_block_by (After g b s) s g b
     (λ e. absurd (true≢false (sym hb ∙ ap busy e)))
     (λ none. absurd (none sf.0 sf.1 sf.2))
     (λ _ _. after_erase g b s hb)
-    (λ d _ _ f. after_move g b d (use_of s b) s hb hb f)
+    (λ d _ l f. after_move g b d (use_of s b) s hb hb l f)
 
 -- k blocks from a on lie in set i, and none of them is free
 abbrev pub InSet : Settings → ℕ → ℕ → ℕ → State → Type 0

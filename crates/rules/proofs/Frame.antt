@@ -1,15 +1,15 @@
 -- What copies leave as it is, and what a move changes.
-use Rattle.std.proofs.Common.{◌≡◌, ℕ, ◌/◌, List, [], ◌∷◌, length, set, sym, refl, ap, ◌∙◌}
+use Rattle.std.proofs.Common.{◌≡◌, ℕ, ◌/◌, List, [], ◌∷◌, length, get_or, set, sym, refl, ap, ◌∙◌, subst, ◌<◌, arith}
 use Rattle.std.proofs.lemmas.List.{length-set}
 use Rattle.flash.specs.Meaning.{Page, Block, no_block}
 use Rattle.rules.specs.declared.Settings.{Settings}
 use Rattle.rules.specs.declared.Use.{Use}
 use Rattle.rules.specs.declared.Use.TheVariants.{Free}
 use Rattle.rules.specs.Tables.{State, set_size}
-use Rattle.rules.specs.Blocks.{live_pages}
+use Rattle.rules.specs.Blocks.{use_of, live_pages}
 use Rattle.rules.specs.Steps.{use_block, program_page, count_erase, erase_block, copy, move}
 use Rattle.rules.proofs.StateFacts.{counted}
-use Rattle.rules.proofs.AfterSet.{set_by}
+use Rattle.rules.proofs.AfterSet.{set_by, set_cases}
 
 pub program_counted : (d : ℕ) (q : Page) (s : State) (x : ℕ) → counted (program_page d q s) x ≡ counted s x
 unfolding program_page
@@ -39,6 +39,15 @@ copy_blocks = copy_keeps (λ (s : State). length s.chip.blocks) program_blocks
 pub move_uses : (g : Settings) (b d : ℕ) (u : Use) (s : State) → (move g b d u s).uses ≡ set (set s.uses b Free) d u
 unfolding move use_block erase_block
 move_uses g b d u s = ap (λ us. set (set us b Free) d u) (copy_uses d (live_pages s b) s)
+
+-- the use of each block after a move
+pub moved_use : (P : Use → Type 0) (g : Settings) (b d : ℕ) (u : Use) (s : State) (x : ℕ) → b < length s.uses → d < length s.uses
+    → (x ≡ d → P u) → ((x ≡ d → ⊥) → x ≡ b → P Free) → ((x ≡ d → ⊥) → (x ≡ b → ⊥) → P (use_of s x)) → P (use_of (move g b d u s) x)
+moved_use P g b d u s x lb ld there here other = subst (λ us. P (get_or us x Free)) (sym (move_uses g b d u s))
+    (set_cases P (set s.uses b Free) d x u Free (omega (arith, length-set s.uses b Free)) there (λ ne. set_cases P s.uses b x Free Free lb (here ne) (other ne)))
+
+pub move_long : (g : Settings) (b d : ℕ) (u : Use) (s : State) → length (move g b d u s).uses ≡ length s.uses
+move_long g b d u s = ap length (move_uses g b d u s) ∙ length-set (set s.uses b Free) d u ∙ length-set s.uses b Free
 
 pub move_meter : (g : Settings) (b d : ℕ) (u : Use) (s : State) → (move g b d u s).meter ≡ count_erase (b / set_size g) s.meter
 unfolding move use_block erase_block

@@ -12,10 +12,10 @@ use Rattle.rules.specs.Steps.{use_block, program_page, erase_block, move, close_
 use Rattle.rules.specs.Levelling.{turn_to, end_round, level_in}
 use Rattle.rules.specs.WellFormed.{busy}
 use Rattle.rules.proofs.StateFacts.{SomeFree, Ready, NoOpen, NoneIn, OneOpen, HasOpen}
-use Rattle.rules.proofs.AfterSet.{set_by}
+use Rattle.rules.proofs.AfterSet.{set_by, set_cases}
 use Rattle.rules.proofs.InUse.{busy_below, busy_not_free}
 use Rattle.rules.proofs.Choices.{close_open_by, store_by, clean_by, open_next_by, make_room_by}
-use Rattle.rules.proofs.Frame.{move_uses, program_blocks}
+use Rattle.rules.proofs.Frame.{moved_use, move_long, program_blocks}
 use Rattle.rules.proofs.Stable.{settle_level}
 use Rattle.rules.proofs.Copies.{valid_program}
 use Rattle.rules.proofs.Mapped.{Holding, holding_put, holding_move, holding_level}
@@ -23,20 +23,19 @@ use Rattle.rules.proofs.Writes.{closes}
 
 -- an open block after b was freed was open, and is not b
 freed_open : (us : List Use) (b x : ℕ) → b < length us → get_or (set us b Free) x Free ≡ Open → (get_or us x Free ≡ Open) × (x ≡ b → ⊥)
-freed_open us b x l h = (
-  set_by (λ v. v ≡ Open → get_or us x Free ≡ Open) us b x Free Free (λ _ e. cc) (λ e. e) h,
-  λ e. let f : ◌≡◌ {A = Use} Free Open = sym (get_or-set_same us b Free Free l) ∙ ap (λ y. get_or (set us b Free) y Free) (sym e) ∙ h in absurd (cc),
-)
+freed_open us b x l = set_cases (λ v. v ≡ Open → (get_or us x Free ≡ Open) × (x ≡ b → ⊥)) us b x Free Free l (λ _ e. absurd (cc)) (λ n e. (e, n))
 
 -- a move of b to d, in the use u, as the open blocks see it
-pub moved_open : (g : Settings) (s : State) (b d x : ℕ) (u : Use) → b < length s.uses → use_of (move g b d u s) x ≡ Open → ((x ≡ d) × (u ≡ Open)) ⊎ ((use_of s x ≡ Open) × (x ≡ b → ⊥))
-moved_open g s b d x u l h = set_by (λ v. v ≡ Open → ((x ≡ d) × (u ≡ Open)) ⊎ ((use_of s x ≡ Open) × (x ≡ b → ⊥))) (set s.uses b Free) d x u Free
-    (λ e k. inl (e, k)) (λ k. inr (freed_open s.uses b x l k)) (sym (ap (λ us. get_or us x Free) (move_uses g b d u s)) ∙ h)
+abbrev pub MovedOpen : State → ℕ → ℕ → Use → ℕ → Type 0
+MovedOpen s b d u x = ((x ≡ d) × (u ≡ Open)) ⊎ ((use_of s x ≡ Open) × (x ≡ b → ⊥))
 
-one_moved : (g : Settings) (b d : ℕ) (u : Use) (s : State) → b < length s.uses → (u ≡ Open → (x : ℕ) → use_of s x ≡ Open → x ≡ b) → OneOpen s → OneOpen (move g b d u s)
-one_moved g b d u s l only o x y hx hy = go (moved_open g s b d x u l hx) (moved_open g s b d y u l hy)
+pub moved_open : (g : Settings) (s : State) (b d x : ℕ) (u : Use) → b < length s.uses → d < length s.uses → use_of (move g b d u s) x ≡ Open → MovedOpen s b d u x
+moved_open g s b d x u lb ld = moved_use (λ v. v ≡ Open → MovedOpen s b d u x) g b d u s x lb ld (λ e k. inl (e, k)) (λ _ _ k. absurd (cc)) (λ _ n k. inr (k, n))
+
+one_moved : (g : Settings) (b d : ℕ) (u : Use) (s : State) → b < length s.uses → d < length s.uses → (u ≡ Open → (x : ℕ) → use_of s x ≡ Open → x ≡ b) → OneOpen s → OneOpen (move g b d u s)
+one_moved g b d u s lb ld only o x y hx hy = go (moved_open g s b d x u lb ld hx) (moved_open g s b d y u lb ld hy)
   where
-    go : ((x ≡ d) × (u ≡ Open)) ⊎ ((use_of s x ≡ Open) × (x ≡ b → ⊥)) → ((y ≡ d) × (u ≡ Open)) ⊎ ((use_of s y ≡ Open) × (y ≡ b → ⊥)) → x ≡ y
+    go : MovedOpen s b d u x → MovedOpen s b d u y → x ≡ y
     go (inl p) (inl q) = p.0 ∙ sym q.0
     go (inl p) (inr q) = absurd (q.1 (only p.1 y q.0))
     go (inr p) (inl q) = absurd (p.1 (only q.1 x p.0))
@@ -45,15 +44,13 @@ one_moved g b d u s l only o x y hx hy = go (moved_open g s b d x u l hx) (moved
 pub one_level : (g : Settings) (turns : ℕ) (s : State) → OneOpen s → OneOpen (level_in turns g s)
 unfolding erase_block turn_to end_round
 one_level g = settle_level g OneOpen (record {
-  by_move = λ b d s hb l f o. one_moved g b d (use_of s b) s (busy_below s b hb) (λ e x hx. o x b hx e) o;
+  by_move = λ b d s hb l f o. one_moved g b d (use_of s b) s (busy_below s b hb) l (λ e x hx. o x b hx e) o;
   by_dead = λ b s hb e o x y hx hy. o x y (freed_open s.uses b x (busy_below s b hb) hx).0 (freed_open s.uses b y (busy_below s b hb) hy).0;
 }) (λ i s o. o) (λ s e o. o)
 
 pub closes_open : (s : State) → OneOpen s → NoOpen (close_open s)
-closes_open s o = close_open_by NoOpen s (λ none. none) (λ b l e x. unfold use_block in (λ h. ⊎_elim
-    (λ q. let c : ◌≡◌ {A = Use} Closed Open = sym (get_or-set_same s.uses b Closed Free l) ∙ ap (λ y. get_or (set s.uses b Closed) y Free) (sym q) ∙ h in absurd (cc))
-    (λ q. q (o x b (sym (get_or-set_other s.uses b x Closed Free q) ∙ h) e))
-    (cases_eq x b)))
+closes_open s o = close_open_by NoOpen s (λ none. none) (λ b l e x. unfold use_block in
+    set_cases (λ v. v ≡ Open → ⊥) s.uses b x Closed Free l (λ _ h. absurd (cc)) (λ n h. n (o x b h e)))
 
 closed_of : (u : Use) → (u ≡ Free → ⊥) → (u ≡ Open → ⊥) → u ≡ Closed
 closed_of Free f o = absurd (f refl)
@@ -79,15 +76,10 @@ pub record Opened (t : State) : Type 0 where
 
 opened_move : (g : Settings) (v d : ℕ) (s : State) → use_of s v ≡ Closed → d < length s.uses → use_of s d ≡ Free → NoOpen s → Holding s → Opened (move g v d Open s)
 opened_move g v d s hv l hd nop h =
-    let e = move_uses g v d Open s in
-    let freed = set s.uses v Free in
+    let lv = busy_below s v (ap busy hv) in
     record {
-      one = one_moved g v d Open s (busy_below s v (ap busy hv)) (λ _ x hx. absurd (nop x hx)) (λ x y hx hy. absurd (nop x hx));
-      has = (
-        d,
-        omega (arith, ap length e, length-set freed d Open, length-set s.uses v Free),
-        ap (λ us. get_or us d Free) e ∙ get_or-set_same freed d Open Free (omega (arith, length-set s.uses v Free)),
-      );
+      one = one_moved g v d Open s lv l (λ _ x hx. absurd (nop x hx)) (λ x y hx hy. absurd (nop x hx));
+      has = (d, omega (arith, move_long g v d Open s), moved_use (λ u. u ≡ Open) g v d Open s d lv l (λ _. refl) (λ n _. absurd (n refl)) (λ n _. absurd (n refl)));
       holding = holding_move g v d Open s (busy_not_free s v d (ap busy hv) hd) l h;
     }
 

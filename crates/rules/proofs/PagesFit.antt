@@ -14,9 +14,9 @@ use Rattle.rules.specs.Steps.{use_block, program_page, erase_block, copy, move}
 use Rattle.rules.specs.Levelling.{turn_to, end_round, level_in}
 use Rattle.rules.specs.WellFormed.{busy}
 use Rattle.rules.proofs.StateFacts.{held, Busy}
-use Rattle.rules.proofs.AfterSet.{set_by, set_free}
+use Rattle.rules.proofs.AfterSet.{set_by, set_cases, set_free}
 use Rattle.rules.proofs.InUse.{busy_below, busy_not_free}
-use Rattle.rules.proofs.Frame.{move_uses}
+use Rattle.rules.proofs.Frame.{moved_use, move_long}
 use Rattle.rules.proofs.Stable.{settle_level}
 use Rattle.rules.proofs.Copies.{pages_same, pages_other}
 use Rattle.rules.proofs.Runs.{Runs, runs_push}
@@ -84,10 +84,6 @@ module _ (was : Flash) where
   fit_put b u s hu h = record { chips = h.chips; tables = length-set s.uses b u ∙ h.tables; good = h.good; blanks = λ x f. h.blanks x (set_free s.uses b x u hu f); runs = h.runs }
 
   module _ (g : Settings) where
-    erased_pages : (b : ℕ) (s : State) → b < length s.chip.blocks → (held (erase_block g b s) b).pages ≡ []
-    unfolding erase_block
-    erased_pages b s l = ap (λ (c : Block). c.pages) (get_or-set_same s.chip.blocks b _ no_block l)
-
     kept_pages : (b : ℕ) (s : State) (x : ℕ) → (x ≡ b → ⊥) → (held (erase_block g b s) x).pages ≡ (held s x).pages
     unfolding erase_block
     kept_pages b s x ne = ap (λ (c : Block). c.pages) (get_or-set_other s.chip.blocks b x _ no_block ne)
@@ -98,10 +94,8 @@ module _ (was : Flash) where
 
     -- a block after the erase of b is blank, if it is b or was blank
     erased_blank : (b : ℕ) (s : State) (x : ℕ) → b < length s.chip.blocks → ((x ≡ b → ⊥) → length (held s x).pages ≡ 0) → length (held (erase_block g b s) x).pages ≡ 0
-    erased_blank b s x l h = ⊎_elim
-        (λ e. ap (λ y. length (held (erase_block g b s) y).pages) e ∙ ap length (erased_pages b s l))
-        (λ e. ap length (kept_pages b s x e) ∙ h e)
-        (cases_eq x b)
+    unfolding erase_block
+    erased_blank b s x l = set_cases (λ (c : Block). length c.pages ≡ 0) s.chip.blocks b x _ no_block l (λ _. refl)
 
     fit_dead : (b : ℕ) (s : State) → Busy s b → PagesFit was s → PagesFit was (erase_block g b s)
     fit_dead b s hb h = record {
@@ -121,9 +115,9 @@ module _ (was : Flash) where
     fit_move b c u s hb hu lc hc h = (
       record {
         chips = unfold move use_block erase_block in (length-set t.chip.blocks b _ ∙ fl.chips);
-        tables = ap length (move_uses g b c u s) ∙ length-set freed c u ∙ length-set s.uses b Free ∙ h.tables;
+        tables = move_long g b c u s ∙ h.tables;
         good = unfold move use_block in erased_good b t fl.good;
-        blanks = λ x f. unfold move use_block in erased_blank b t x bc (blank_at x (sym (ap (λ us. get_or us x Free) (move_uses g b c u s)) ∙ f));
+        blanks = λ x f. unfold move use_block in erased_blank b t x bc (blank_at x f);
         runs = unfold move use_block erase_block in runs_push was t.log (erase b) was t.chip fl.runs bn;
       },
       unfold move use_block in (ap length (kept_pages b t c (λ e. busy_not_free s b c hb hc (sym e))) ∙ fl.there ∙ omega (arith, h.blanks c hc)),
@@ -131,9 +125,6 @@ module _ (was : Flash) where
       where
         t : State
         t = copy c (live_pages s b) s
-
-        freed : List Use
-        freed = set s.uses b Free
 
         bn : b < length was.blocks
         bn = omega (arith, busy_below s b hb, h.tables)
@@ -145,11 +136,11 @@ module _ (was : Flash) where
         bc : b < length t.chip.blocks
         bc = omega (arith, bn, fl.chips)
 
-        not_c : (x : ℕ) → get_or (set freed c u) x Free ≡ Free → x ≡ c → ⊥
-        not_c x f e = true≢false (sym hu ∙ sym (ap busy (get_or-set_same freed c u Free (omega (arith, length-set s.uses b Free)))) ∙ ap (λ y. busy (get_or (set freed c u) y Free)) (sym e) ∙ ap busy f)
-
-        blank_at : (x : ℕ) → get_or (set freed c u) x Free ≡ Free → (x ≡ b → ⊥) → length (held t x).pages ≡ 0
-        blank_at x f e = ap length (fl.elsewhere x (not_c x f)) ∙ h.blanks x (sym (get_or-set_other s.uses b x Free Free e) ∙ set_free freed c x u hu f)
+        blank_at : (x : ℕ) → use_of (move g b c u s) x ≡ Free → (x ≡ b → ⊥) → length (held t x).pages ≡ 0
+        blank_at x = moved_use (λ v. v ≡ Free → (x ≡ b → ⊥) → length (held t x).pages ≡ 0) g b c u s x (busy_below s b hb) lc
+            (λ _ f _. absurd (true≢false (sym hu ∙ ap busy f)))
+            (λ _ e _ n. absurd (n e))
+            (λ n _ f _. ap length (fl.elsewhere x n) ∙ h.blanks x f)
 
     pub fit_level : (turns : ℕ) (s : State) → PagesFit was s → PagesFit was (level_in turns g s)
     unfolding turn_to end_round

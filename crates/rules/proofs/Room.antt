@@ -89,7 +89,7 @@ module _ (g : Settings) (was : Flash) (num : InNumbers g was) (r : BlockOrder) (
         λ x e. ⊎_elim
             (λ (k : (x ≡ f) × (Open ≡ Open)). subst (λ y. length (held (move g v.number f Open s) y).pages < was.p) (sym k.0) (omega (arith, m.1)))
             (λ (k : (use_of s x ≡ Open) × (x ≡ v.number → ⊥)). absurd (nop x k.0))
-            (moved_open g s v.number f x Open lv e),
+            (moved_open g s v.number f x Open lv lf e),
       ))
 
   put_spared : (c : ℕ) (s : State) → Fits s → NoOpen s → use_of s c ≡ Free → Spared (use_block c Open s)

@@ -14,7 +14,7 @@ use Rattle.rules.proofs.StateFacts.{Busy, Ready, set_of}
 use Rattle.rules.proofs.AfterSet.{set_free}
 use Rattle.rules.proofs.InUse.{busy_below, busy_not_free}
 use Rattle.rules.proofs.Choices.{close_open_by, store_by, clean_by, open_next_by, make_room_by}
-use Rattle.rules.proofs.Frame.{move_uses}
+use Rattle.rules.proofs.Frame.{moved_use}
 use Rattle.rules.proofs.Stable.{keeps_move}
 use Rattle.rules.proofs.Collects.{after_move}
 use Rattle.rules.proofs.Levels.{Counted, counted_stable}
@@ -52,7 +52,7 @@ module _ (g : Settings) (n m : ℕ) where
   unfolding count_erase
   moves v d s rd hv ld hd only =
       let t = move g v d Open s in
-      let af = after_move g v d Open s refl hv hd in
+      let af = after_move g v d Open s refl hv ld hd in
       let c = keeps_move g (Counted g n m) (counted_stable g n m) v d Open s refl hv (rd.sized, rd.marked) in
       let vm = set_of g n m s rd.sized v (omega (arith, busy_below s v hv, rd.sized.tables)) in
       record {
@@ -60,22 +60,13 @@ module _ (g : Settings) (n m : ℕ) where
           sized = c.0;
           marked = c.1;
           some = af.some;
-          freed = λ _ x l h. ⊎_elim
-              (λ q. ap (λ (k : Meter). get_or k.flags (x / set_size g) false) af.meter_is ∙ ap (λ y. get_or (set s.meter.flags (v / set_size g) true) (y / set_size g) false) q ∙ get_or-set_same s.meter.flags (v / set_size g) true false vm)
-              (λ q. absurd (clash x (omega (arith, rd.sized.tables)) q (sym (ap (λ us. get_or us x Free) (move_uses g v d Open s)) ∙ h)))
-              (cases_eq x v);
+          freed = λ _ x l. moved_use (λ u. u ≡ Free → get_or t.meter.flags (x / set_size g) false ≡ true) g v d Open s x (busy_below s v hv) ld (λ _ f. absurd (cc))
+              (λ _ q _. ap (λ (k : Meter). get_or k.flags (x / set_size g) false) af.meter_is ∙ ap (λ y. get_or (set s.meter.flags (v / set_size g) true) (y / set_size g) false) q ∙ get_or-set_same s.meter.flags (v / set_size g) true false vm)
+              (λ n _ f. absurd (n (only x (omega (arith, rd.sized.tables)) f)));
           seeking = subst (λ (k : Meter). k.findex < m) (sym af.meter_is) rd.seeking;
         };
         meter = inr (v / set_size g, omega (arith, vm, rd.sized.flagged), af.meter_is);
       }
-    where
-      freed : List Use
-      freed = set s.uses v Free
-
-      clash : (x : ℕ) → x < length s.uses → (x ≡ v → ⊥) → get_or (set freed d Open) x Free ≡ Free → ⊥
-      clash x l q h =
-          let e : x ≡ d = only x l (sym (get_or-set_other s.uses v x Free Free q) ∙ set_free freed d x Open refl h) in
-          true≢false (sym (ap busy (get_or-set_same freed d Open Free (omega (arith, length-set s.uses v Free)))) ∙ ap (λ y. busy (get_or (set freed d Open) y Free)) (sym e) ∙ ap busy h)
 
   opens : (r : BlockOrder) (s : State) → Ready g n m s → Roomed s.meter (open_next g r (blocks_in Free s) s)
   opens r s rd =
