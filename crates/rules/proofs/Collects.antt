@@ -12,7 +12,6 @@ use Rattle.rules.specs.Steps.{count_erase, erase_block, move}
 use Rattle.rules.specs.Levelling.{collect_block, collect}
 use Rattle.rules.specs.WellFormed.{busy}
 use Rattle.rules.proofs.StateFacts.{Busy, SomeFree}
-use Rattle.rules.proofs.AfterSet.{set_by}
 use Rattle.rules.proofs.InUse.{busy_below, busy_not_free}
 use Rattle.rules.proofs.Choices.{collect_block_by}
 use Rattle.rules.proofs.Frame.{moved_use, move_long, move_meter}

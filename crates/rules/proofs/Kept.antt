@@ -1,23 +1,22 @@
 -- Every call on a sound leveller, refused or not.
-use Rattle.std.proofs.Common.{◌≡◌, ℕ, zero, suc, ◌*◌, ◌/◌, ◌<◌, ◌≤◌, Bool, true, false, not, eqb, ltb, List, [], ◌∷◌, length, get_or, replicate, is_some, IfSome, Some, None, Ok, Option, ⊎_elim, sym, refl, ap, ◌∙◌, inl, arith}
+use Rattle.std.proofs.Common.{◌≡◌, ℕ, zero, suc, ◌*◌, ◌/◌, ◌<◌, ◌≤◌, Bool, false, not, eqb, List, [], length, get_or, replicate, IfSome, Some, None, Ok, Option, ⊎_elim, sym, refl, ap, ◌∙◌, inl, arith}
 use Rattle.std.proofs.lemmas.List.{length-set, length-replicate, get_or-replicate, get_or_past}
-use Rattle.std.proofs.lemmas.Bool.{cases_lt, not-false, ltb-true, eqb-true}
-use Rattle.flash.specs.Limits.{within}
-use Rattle.flash.specs.Meaning.{Flash, Block, block, no_block, page, geometry_of}
+use Rattle.std.proofs.lemmas.Bool.{cases_lt, not-false, eqb-true}
+use Rattle.std.proofs.lemmas.Bool.Decides.{nat_tests}
+use Rattle.flash.specs.Meaning.{Flash, Block, block, no_block, page}
 use Rattle.rules.specs.declared.Settings.{Settings}
 use Rattle.rules.specs.declared.Place.{Place}
 use Rattle.rules.specs.declared.Use.TheVariants.{Free}
 use Rattle.rules.specs.declared.Written.{Written}
 use Rattle.rules.specs.declared.Refusal.{Refusal}
-use Rattle.rules.specs.declared.Refusal.TheVariants.{AlreadyStarted, OutsideLimits, UnevenSets, WrongThreshold, WrongLogical, NotBlank, NotStarted, NoSuchPage, WrongLength, WornOut}
+use Rattle.rules.specs.declared.Refusal.TheVariants.{NotStarted}
 use Rattle.rules.specs.Tables.{Tables, State, Leveller, Outcome, begin, left, set_size}
 use Rattle.rules.specs.Blocks.{BlockOrder}
-use Rattle.rules.specs.Calls.{refusal, refused, unless, sets_fit, threshold_fits, logical_fits, has_written, is_worn, start_checks, write_checks, read_checks, discard_checks, fresh_tables, forgotten, writing, write_done, read_at, start, write, read, discard}
+use Rattle.rules.specs.Calls.{refusal, refused, unless, has_written, is_worn, start_checks, write_checks, read_checks, discard_checks, fresh_tables, forgotten, writing, write_done, read_at, start, write, read, discard}
 use Rattle.rules.specs.WellFormed.{Fitting, WellFormed, Sound}
 use Rattle.rules.specs.Obeyed.{obeyed}
 use Rattle.rules.specs.Laws.{VictimOrder, times_erased, NewSound, CleaningGains, StartKeeps, WriteKeeps, ReadKeeps, DiscardKeeps, WriteObeyed, WriteOnce, SearchEnds, LevellingEnds}
-use Rattle.rules.proofs.Flags.{seek_clear}
-use Rattle.rules.proofs.Flags.{ones_none}
+use Rattle.rules.proofs.Flags.{seek_clear, ones_none}
 use Rattle.rules.proofs.AfterSet.{set_by}
 use Rattle.rules.proofs.Fits.{in_numbers, sets_whole, none_passes}
 use Rattle.rules.proofs.Wrote.{Wrote, wrote, ends, wrote_well, wrote_fits, wrote_obeyed, wrote_once, cleaning}
@@ -40,11 +39,6 @@ started_by P cs l buffer done h refuse accept = go l.tables h.kept
     go None k = refuse NotStarted
     go (Some x) k = unless_by P (cs x) l buffer (done x) refuse (accept x k)
 
--- the first of some checks is not true, nor are the others
-passed : (v : Bool) (e : Refusal) (cs : List (Bool × Refusal)) → refusal ((v, e) ∷ cs) ≡ None → (v ≡ false) × (refusal cs ≡ None)
-passed true e cs h = absurd (cc)
-passed false e cs h = (refl, h)
-
 -- a write is refused, or done with all that it keeps
 write_by : (P : Outcome Written → Type 0) (r : BlockOrder) → VictimOrder r → (l : Leveller) (t : ℕ) (bytes : List ℕ) → Sound l → ((e : Refusal) → P (refused e l bytes))
     → ((x : Tables) (k : WellFormed x l.chip) (s : State) → is_worn l.chip ≡ false → Wrote x l.chip s → P (write_done x.settings bytes s)) → P (write r l t bytes)
@@ -52,10 +46,10 @@ unfolding write
 write_by P r vo l t bytes h refuse accept =
     started_by P (λ x. write_checks x.settings l.chip t bytes) l bytes (λ x. write_done x.settings bytes (writing x.settings r t bytes (begin x l.chip))) h refuse
     (λ x k q.
-    let a = passed (not (ltb t x.settings.logical)) NoSuchPage _ q in
-    let b = passed (not (eqb (length bytes) l.chip.d)) WrongLength _ a.1 in
-    let c = passed (is_worn l.chip) WornOut [] b.1 in
-    accept x k _ c.0 (wrote r x l.chip k t bytes vo h.chip_fits (ltb-true t x.settings.logical (not-false _ a.0)) (eqb-true (length bytes) l.chip.d (not-false _ b.0))))
+    let worn : is_worn l.chip ≡ false = grind (arith, nat_tests) in
+    let below : t < x.settings.logical = grind (arith, nat_tests) in
+    let long : length bytes ≡ l.chip.d = grind (arith, nat_tests) in
+    accept x k _ worn (wrote r x l.chip k t bytes vo h.chip_fits below long))
 
 pub write_keeps : WriteKeeps
 write_keeps r vo l t bytes h = write_by (λ o. Sound (left o)) r vo l t bytes h (λ e. h) (λ x k s nw w. record { chip_fits = wrote_fits x l.chip k h.chip_fits s w nw; kept = wrote_well x l.chip k h.chip_fits s w })
@@ -147,17 +141,10 @@ start_well f g fit blank =
 pub start_keeps : StartKeeps
 unfolding start
 start_keeps l g h = unless_by (λ o. Sound (left o)) (start_checks l g) l [] (record { answer = Ok tt; tables = Some (fresh_tables l.chip g); chip = l.chip; buffer = []; operations = [] }) (λ e. h)
-    (λ q. let a = passed (is_some l.tables) AlreadyStarted _ q in
-    let b = passed (not (within (geometry_of l.chip))) OutsideLimits _ a.1 in
-    let c = passed (not (sets_fit l.chip g)) UnevenSets _ b.1 in
-    let d = passed (not (threshold_fits g)) WrongThreshold _ c.1 in
-    let e = passed (not (logical_fits l.chip g)) WrongLogical _ d.1 in
-    let w = passed (has_written l.chip) NotBlank [] e.1 in
-    record {
-      chip_fits = h.chip_fits;
-      kept = start_well l.chip g
-          (record { sizes = not-false _ b.0; sets = not-false _ c.0; threshold = not-false _ d.0; logical = not-false _ e.0 }) w.0;
-    })
+    (λ q.
+    let fit : Fitting g l.chip = record { sizes = grind arith; sets = grind arith; threshold = grind arith; logical = grind arith } in
+    let blank : has_written l.chip ≡ false = grind arith in
+    record { chip_fits = h.chip_fits; kept = start_well l.chip g fit blank })
 
 pub search_ends : SearchEnds
 search_ends m l h = seek_clear m.flags m.findex l h

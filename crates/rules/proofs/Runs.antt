@@ -78,5 +78,8 @@ runs_shaped : (z : Flash) (os : List Op) (f h : Flash) → Runs z os f h → Sha
 runs_shaped z [] f h r s = subst (Shaped z) r s
 runs_shaped z (o ∷ os) f h r s = runs_shaped z os (apply o f) h r.1 (apply_shaped z o f s)
 
+pub own_shape : (f : Flash) → Shaped f f
+own_shape f = record { blocks_are = refl; p_is = refl; d_is = refl; e_is = refl }
+
 pub shape : (os : List Op) (f h : Flash) → Runs f os f h → Shaped f h
-shape os f h r = runs_shaped f os f h r (record { blocks_are = refl; p_is = refl; d_is = refl; e_is = refl })
+shape os f h r = runs_shaped f os f h r (own_shape f)

@@ -21,7 +21,7 @@ use Rattle.rules.proofs.Ends.{Levelled, levelled_write, between_even, level_more
 use Rattle.rules.proofs.Writes.{writes}
 use Rattle.rules.proofs.Mapped.{Holding}
 use Rattle.rules.proofs.Stable.{keeps_make_room, keeps_store}
-use Rattle.rules.proofs.Runs.{Shaped, shape, runs_obeyed, runs_times}
+use Rattle.rules.proofs.Runs.{Shaped, own_shape, shape, runs_obeyed, runs_times}
 use Rattle.rules.proofs.PagesFit.{Good, PagesFit}
 use Rattle.rules.proofs.Room.{fit_write, gains, fit_close, close_places}
 use Rattle.rules.proofs.Opened.{closes_open, held_write}
@@ -163,7 +163,7 @@ module _ (x : Tables) (f : Flash) (k : WellFormed x f) (c : ChipFits f) (t : Sta
   }
 
   pub wrote_obeyed : is_worn f ≡ false → obeyed t.log f ≡ Some t.chip
-  wrote_obeyed nw = runs_obeyed f (λ b. (block f b).count) (not_worn f c nw) t.log f t.chip (record { blocks_are = refl; p_is = refl; d_is = refl; e_is = refl }) w.fit.runs (λ b. omega arith) (λ b. (w.most b).1)
+  wrote_obeyed nw = runs_obeyed f (λ b. (block f b).count) (not_worn f c nw) t.log f t.chip (own_shape f) w.fit.runs (λ b. omega arith) (λ b. (w.most b).1)
 
   pub wrote_once : (b : ℕ) → times_erased b t.log ≤ 1
   wrote_once b = omega (arith, runs_times f t.log f t.chip refl w.fit.runs b, (w.most b).1)

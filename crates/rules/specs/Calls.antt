@@ -1,6 +1,6 @@
 -- The one outcome of each call of a leveller, for all arguments: start, write, read, discard.
 -- A call tries its refusals in rising number; the first that applies is its answer, and all is as it was.
-use Rattle.std.specs.Prelude.{ℕ, ◌-◌, ◌*◌, ◌/◌, ◌%◌, Bool, true, false, not, ◌&&◌, List, [], ◌∷◌, length, replicate, is_some, Some, None, Ok, Err, count_by, Option, ◌==◌, nat_eq, nat_le, nat_lt, slice_index_or, slice_set}
+use Rattle.std.specs.Prelude.{ℕ, ◌-◌, ◌*◌, ◌/◌, ◌%◌, Bool, true, false, cond, not, ◌&&◌, List, [], ◌∷◌, length, replicate, is_some, Some, None, Ok, Err, count_by, Option, ◌==◌, nat_eq, nat_le, nat_lt, slice_index_or, slice_set}
 use Rattle.std.specs.List.{list_any}
 use Rattle.flash.specs.Limits.{between, within}
 use Rattle.flash.specs.Meaning.{Flash, Op, program, erase, page, page_of, geometry_of}
@@ -18,8 +18,7 @@ use Rattle.rules.specs.Levelling.{level}
 -- Checks, each with the refusal where it is true: the first that is true.
 abbrev pub refusal : List (Bool × Refusal) → Option Refusal
 refusal [] = None
-refusal ((true, e) ∷ cs) = Some e
-refusal ((false, e) ∷ cs) = refusal cs
+refusal ((v, e) ∷ cs) = cond v (Some e) (refusal cs)
 
 -- A refused call leaves everything.
 abbrev pub refused : {T : Type 0} → Refusal → Leveller → List ℕ → Outcome T
