@@ -4,6 +4,7 @@
 --   run C    six blocks of three one-byte pages in sets of two, E 100, k 1, T 1, L 10, cost-benefit: 34 writes
 --   Row      what a write did to the chip, and flags, counters and erase counts after it
 use Rattle.std.specs.Prelude.{◌≡◌, ℕ, suc, pred, Bool, true, false, List, [], ◌∷◌, ◌++◌, map, replicate, Some, None, Ok, Err, Option, slice_index_or, refl}
+use Rattle.std.specs.Option.{option_map_or}
 use Rattle.orders.specs.Ranks.{fewest_live, cost_benefit}
 use Rattle.orders.specs.Worked.{block}
 use Rattle.flash.specs.Meaning.{Flash, Page, Block, Op, program, erase, page_of, blank, no_chip}
@@ -56,15 +57,11 @@ row operations flags ecnt fcnt findex rounds counts =
 abbrev pub no_meter : Meter
 no_meter = record { flags = []; ecnt = 0; fcnt = 0; findex = 0; rounds = 0 }
 
-abbrev pub meter_of : Option Tables → Meter
-meter_of None = no_meter
-meter_of (Some x) = x.meter
-
 abbrev pub counts_of : Flash → List ℕ
 counts_of f = map (λ x. x.count) f.blocks
 
 abbrev pub row_of : Outcome Written → Row
-row_of o = let m = meter_of o.tables in row o.operations m.flags m.ecnt m.fcnt m.findex m.rounds (counts_of o.chip)
+row_of o = let m = option_map_or (λ x. x.meter) o.tables no_meter in row o.operations m.flags m.ecnt m.fcnt m.findex m.rounds (counts_of o.chip)
 
 unfoldable pub run_a : List (Outcome Written)
 run_a = run fewest_live 1 (0 ∷ 1 ∷ 2 ∷ 3 ∷ replicate 20 0) (started (chip 4 2 1 100) (settings 0 2 4))
