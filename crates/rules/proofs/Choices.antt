@@ -13,7 +13,7 @@ use Rattle.rules.specs.Steps.{use_block, program_page, erase_block, move, clean,
 use Rattle.rules.specs.Levelling.{clear_out, collect_block, end_round, even, collect_next, level_in}
 use Rattle.rules.specs.WellFormed.{busy}
 use Rattle.rules.proofs.StateFacts.{held, NoOpen, NoneIn}
-use Rattle.rules.proofs.InUse.{Contains-one, in_use, has_use, free_rises, first_in, open_in}
+use Rattle.rules.proofs.InUse.{same_from_only, in_use, has_use, free_rises, first_in, open_in}
 
 module _ (P : State → Type 0) (s : State) where
   pub close_open_by : (NoOpen s → P s) → ((b : ℕ) → b < length s.uses → use_of s b ≡ Open → P (use_block b Closed s)) → P (close_open s)
@@ -39,7 +39,7 @@ module _ (P : State → Type 0) (s : State) where
       where
         go : (ds : List ℕ) → All (λ b. (b < length s.uses) × (use_of s b ≡ Free)) ds → ((x : ℕ) → x < length s.uses → use_of s x ≡ Free → Contains ds x) → AllPairs (λ a b. a < b) ds → P (open_next g r ds s)
         go [] h f t = none (λ x l e. omega (arith, (f x l e).1))
-        go (d ∷ []) h f t = let a = h 0 d (omega arith) in one d a.0 a.1 (λ x l e. Contains-one d x (f x l e))
+        go (d ∷ []) h f t = let a = h 0 d (omega arith) in one d a.0 a.1 (λ x l e. same_from_only d x (f x l e))
         go (a ∷ b ∷ ds) h f t =
             let ha = h 0 a (omega arith) in
             let hb = h 1 a (omega arith) in

@@ -44,8 +44,8 @@ own_use Closed = refl
 Contains-cons : {X : Type 0} (x y : X) (xs : List X) → Contains xs x → Contains (y ∷ xs) x
 Contains-cons x y xs c = (suc c.0, omega (arith, c.1), c.2)
 
-pub Contains-one : {X : Type 0} (y x : X) → Contains (y ∷ []) x → x ≡ y
-Contains-one y x c = let k : c.0 ≡ 0 = omega (arith, c.1) in sym c.2 ∙ ap (λ i. get_or (y ∷ []) i x) k
+pub same_from_only : {X : Type 0} (y x : X) → Contains (y ∷ []) x → x ≡ y
+same_from_only y x c = let k : c.0 ≡ 0 = omega (arith, c.1) in sym c.2 ∙ ap (λ i. get_or (y ∷ []) i x) k
 
 -- an element that passes is kept
 Contains-filter : {X : Type 0} (p : X → Bool) (xs : List X) (k : ℕ) (x : X) → k < length xs → get_or xs k x ≡ x → p x ≡ true → Contains (filter p xs) x

@@ -1,8 +1,8 @@
 -- A turn of levelling: what it keeps, and that it sets one flag more.
-use Rattle.std.proofs.Common.{◌≡◌, ℕ, suc, ◌*◌, ◌/◌, ◌+◌, ◌<◌, ◌≤◌, true, false, cond, length, get_or, set, ⊎_elim, sym, refl, ap, ◌∙◌, mul-le-mul_right, div-lt_iff_lt-mul, le-div_iff_mul-le, arith}
-use Rattle.std.proofs.lemmas.List.{length-set, get_or-set_same, get_or-set_other, length-replicate, get_or_default}
+use Rattle.std.proofs.Common.{◌≡◌, ℕ, suc, ◌*◌, ◌/◌, ◌+◌, ◌<◌, ◌≤◌, true, false, cond, length, get_or, sym, refl, ap, ◌∙◌, mul-le-mul_right, div-lt_iff_lt-mul, le-div_iff_mul-le, arith}
+use Rattle.std.proofs.lemmas.List.{length-set, get_or-set_other, length-replicate, get_or_default}
 use Rattle.std.proofs.lemmas.List.Sums.{count_by-le-length}
-use Rattle.std.proofs.lemmas.Bool.{true≢false, cases_eq}
+use Rattle.std.proofs.lemmas.Bool.{true≢false}
 use Rattle.std.proofs.lemmas.Bool.Decides.{nat_tests}
 use Rattle.rules.specs.declared.Settings.{Settings}
 use Rattle.rules.specs.declared.Use.TheVariants.{Free}
@@ -12,7 +12,7 @@ use Rattle.rules.specs.Steps.{use_block, program_page, count_erase, erase_block}
 use Rattle.rules.specs.Levelling.{set_blocks, sought, turn_to, end_round, even, collect_next}
 use Rattle.rules.specs.WellFormed.{ones}
 use Rattle.rules.proofs.StateFacts.{Freed, Sized, Ready, some_size, set_of}
-use Rattle.rules.proofs.AfterSet.{set_by, set_free}
+use Rattle.rules.proofs.AfterSet.{set_cases, set_free}
 use Rattle.rules.proofs.InUse.{busy_below, busy_of}
 use Rattle.rules.proofs.Stable.{Stable, stable_settled, settle_collect}
 use Rattle.rules.proofs.Flags.{ones_set, ones_none, seek_clear, next_below}
@@ -45,12 +45,8 @@ module _ (g : Settings) (n m : ℕ) where
 
   freed_erase : (b : ℕ) (s : State) → b < n → Sized g n m s → Freed g n s → Freed g n (erase_block g b s)
   unfolding erase_block count_erase
-  freed_erase b s h z f x l u =
-      let flags = s.meter.flags in
-      ⊎_elim
-      (λ e. ap (λ y. get_or (set flags (b / set_size g) true) (y / set_size g) false) e ∙ get_or-set_same flags (b / set_size g) true false (set_of g n m s z b h))
-      (λ e. set_by (λ v. v ≡ true) flags (b / set_size g) (x / set_size g) true false (λ _. refl) (f x l (sym (get_or-set_other s.uses b x Free Free e) ∙ u)))
-      (cases_eq x b)
+  freed_erase b s h z f x l u = set_cases (λ v. v ≡ true) s.meter.flags (b / set_size g) (x / set_size g) true false (set_of g n m s z b h) (λ _. refl)
+      (λ ne. f x l (sym (get_or-set_other s.uses b x Free Free (λ e. ne (ap (λ y. y / set_size g) e))) ∙ u))
 
   abbrev Kept : State → Type 0
   Kept s = Counted s × Freed g n s

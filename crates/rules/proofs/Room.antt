@@ -15,7 +15,7 @@ use Rattle.rules.specs.Laws.{VictimOrder}
 use Rattle.rules.specs.WellFormed.{busy}
 use Rattle.rules.proofs.StateFacts.{held, NoOpen, OneOpen}
 use Rattle.rules.proofs.AfterSet.{set_by}
-use Rattle.rules.proofs.InUse.{Contains-one, has_use, first_in}
+use Rattle.rules.proofs.InUse.{same_from_only, has_use, first_in}
 use Rattle.rules.proofs.Choices.{close_open_by, store_by, clean_by, open_next_by, make_room_by}
 use Rattle.rules.proofs.Opened.{moved_open, closes_open, others_closed, some_closed}
 use Rattle.rules.proofs.Fits.{InNumbers}
@@ -75,7 +75,7 @@ module _ (g : Settings) (was : Flash) (num : InNumbers g was) (r : BlockOrder) (
   pub gains : (s : State) → Fits s → length s.places ≡ g.logical → NoOpen s → (f : ℕ) → blocks_in Free s ≡ f ∷ []
       → (v : BlockRecord) × (first r (records Closed s) ≡ Some v) × (length (live_pages s v.number) < was.p)
   gains s h mp nop f e =
-      let only = λ (x : ℕ) (lx : x < length s.uses) (q : use_of s x ≡ Free). Contains-one f x (subst (λ fs. Contains fs x) e (has_use Free s x lx q)) in
+      let only = λ (x : ℕ) (lx : x < length s.uses) (q : use_of s x ≡ Free). same_from_only f x (subst (λ fs. Contains fs x) e (has_use Free s x lx q)) in
       first_in r Closed s (λ o. first r (records Closed s) ≡ o → (v : BlockRecord) × (first r (records Closed s) ≡ Some v) × (length (live_pages s v.number) < was.p))
       (λ none _. absurd (some_closed s f (omega (arith, h.tables, num.two_blocks)) nop only none))
       (λ v lv ev q _. (v, q, subst (λ o. IfSome o (λ v. length (live_pages s v.number) < was.p)) q (victim f s h mp (others_closed s f nop only))))

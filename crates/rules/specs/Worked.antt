@@ -14,7 +14,7 @@ use Rattle.rules.specs.declared.Use.{Use}
 use Rattle.rules.specs.declared.Use.TheVariants.{Free, Open, Closed}
 use Rattle.rules.specs.declared.Written.{Written}
 use Rattle.rules.specs.declared.Refusal.TheVariants.{AlreadyStarted, OutsideLimits, UnevenSets, WrongThreshold, WrongLogical, NotBlank, NotStarted, NoSuchPage, WrongLength, WornOut, Empty}
-use Rattle.rules.specs.Tables.{Meter, Tables, Leveller, Outcome, left}
+use Rattle.rules.specs.Tables.{Meter, Leveller, Outcome, left}
 use Rattle.rules.specs.Blocks.{BlockOrder}
 use Rattle.rules.specs.Calls.{start, write, read, discard}
 
