@@ -1,5 +1,5 @@
 -- The lengths of the tables, the age marks and the rounds, kept by every step.
-use Rattle.std.proofs.Common.{◌≡◌, ℕ, suc, ◌+◌, ◌≤◌, [], ◌∷◌, ◌++◌, length, get_or, set, sum, sym, refl, ap, ◌∙◌, mul-le-mul_right, arith}
+use Rattle.std.proofs.Common.{◌≡◌, ℕ, suc, ◌+◌, ◌≤◌, [], ◌∷◌, ◌++◌, length, get_or, set, sum, sym, refl, ap, ◌∙◌, mul-le-mul_right, arith, rules}
 use Rattle.std.proofs.lemmas.List.{length-set}
 use Rattle.std.proofs.lemmas.List.Sums.{sum_by-set, sum-map}
 use Rattle.std.proofs.Math.Seq.{map-set_same}
@@ -34,7 +34,7 @@ module _ (g : Settings) (l n : ℕ) where
   pub booked_stable : Stable g (Booked l n)
   unfolding use_block program_page erase_block count_erase
   booked_stable = record {
-    by_put = λ b u s hu h. record { mapped = h.mapped; marked = h.marked; past = h.past; paid = h.paid; blocks = h.blocks; tables = length-set s.uses b u ∙ h.tables };
+    by_put = λ b u s hu h. search rules;
     by_program = λ b q s h. record {
       mapped = length-set s.places q.tag _ ∙ h.mapped;
       marked = length-set s.marks b _ ∙ h.marked;
@@ -56,7 +56,7 @@ module _ (g : Settings) (l n : ℕ) where
   pub booked_level : 1 ≤ g.threshold → (turns : ℕ) (s : State) → Booked l n s → Booked l n (level_in turns g s)
   unfolding turn_to end_round
   booked_level pos = settle_level g (Booked l n) (stable_settled g (Booked l n) booked_stable)
-      (λ i s h. record { mapped = h.mapped; marked = h.marked; past = h.past; paid = h.paid; blocks = h.blocks; tables = h.tables })
+      (λ i s h. search rules)
       (λ s e h. (let ne = not_even g s.meter e in
       let some : 1 ≤ s.meter.ecnt = omega (arith, ne.0, ne.1, mul-le-mul_right s.meter.fcnt pos) in
       record { mapped = h.mapped; marked = h.marked; past = λ b. omega (arith, h.past b); paid = omega (arith, h.paid); blocks = h.blocks; tables = h.tables }))

@@ -1,5 +1,5 @@
 -- A turn of levelling: what it keeps, and that it sets one flag more.
-use Rattle.std.proofs.Common.{◌≡◌, ℕ, suc, ◌*◌, ◌/◌, ◌+◌, ◌<◌, ◌≤◌, true, false, cond, length, get_or, sym, refl, ap, ◌∙◌, mul-le-mul_right, div-lt_iff_lt-mul, le-div_iff_mul-le, arith}
+use Rattle.std.proofs.Common.{◌≡◌, ℕ, suc, ◌*◌, ◌/◌, ◌+◌, ◌<◌, ◌≤◌, true, false, cond, length, get_or, sym, refl, ap, ◌∙◌, mul-le-mul_right, div-lt_iff_lt-mul, le-div_iff_mul-le, arith, rules}
 use Rattle.std.proofs.lemmas.List.{length-set, get_or-set_other, length-replicate, get_or_default}
 use Rattle.std.proofs.lemmas.List.Sums.{count_by-le-length}
 use Rattle.std.proofs.lemmas.Bool.{true≢false}
@@ -35,10 +35,10 @@ module _ (g : Settings) (n m : ℕ) where
   pub counted_stable : Stable g Counted
   unfolding use_block program_page erase_block count_erase
   counted_stable = record {
-    by_put = λ b u s hu q. (record { sets = q.0.sets; chips = q.0.chips; tables = length-set s.uses b u ∙ q.0.tables; flagged = q.0.flagged }, q.1);
-    by_program = λ b p s q. (record { sets = q.0.sets; chips = length-set s.chip.blocks b _ ∙ q.0.chips; tables = q.0.tables; flagged = q.0.flagged }, q.1);
+    by_put = λ b u s hu q. ((search rules), q.1);
+    by_program = λ b p s q. ((search rules), q.1);
     by_erase = λ b s hb q. (
-      record { sets = q.0.sets; chips = length-set s.chip.blocks b _ ∙ q.0.chips; tables = length-set s.uses b Free ∙ q.0.tables; flagged = length-set s.meter.flags _ true ∙ q.0.flagged },
+      (search rules),
       ones_set s.meter.flags (b / set_size g) (set_of g n m s q.0 b (omega (arith, busy_below s b hb, q.0.tables))) ∙ ap (λ k. cond (get_or s.meter.flags (b / set_size g) true) k (suc k)) q.1,
     );
   }
@@ -100,7 +100,7 @@ module _ (g : Settings) (n m : ℕ) where
       let k = settle_collect g Kept (stable_settled g Kept kept_stable) (set_blocks g i) s ((rd.sized, rd.marked), rd.freed pos) in
       record {
         ready = record {
-          sized = record { sets = k.0.0.sets; chips = k.0.0.chips; tables = k.0.0.tables; flagged = k.0.0.flagged };
+          sized = search rules;
           marked = k.0.1;
           freed = λ _. k.1;
           some = c.1;
@@ -112,7 +112,7 @@ module _ (g : Settings) (n m : ℕ) where
   pub round_ready : (s : State) → Ready g n m s → Ready g n m (end_round s)
   unfolding end_round
   round_ready s rd = record {
-    sized = record { sets = rd.sized.sets; chips = rd.sized.chips; tables = rd.sized.tables; flagged = length-replicate _ false ∙ rd.sized.flagged };
+    sized = search (rules, length-replicate);
     marked = ones_none (length s.meter.flags);
     freed = λ h. absurd (omega (arith, h));
     some = rd.some;

@@ -1,5 +1,5 @@
 -- The map names written pages of the right tag, after erases, moves and levelling too.
-use Rattle.std.proofs.Common.{◌≡◌, ℕ, zero, suc, ◌+◌, ◌<◌, false, List, [], ◌∷◌, length, get_or, Some, None, Option, ⊎_elim, sym, ap, ◌∙◌, subst, arith}
+use Rattle.std.proofs.Common.{◌≡◌, ℕ, zero, suc, ◌+◌, ◌<◌, false, List, [], ◌∷◌, length, get_or, Some, None, Option, ⊎_elim, sym, ap, ◌∙◌, subst, arith, rules}
 use Rattle.std.proofs.lemmas.List.{length-set, get_or-set_other}
 use Rattle.std.proofs.lemmas.Bool.{cases_Bool, cond-true, cond-false}
 use Rattle.flash.specs.Meaning.{Page, Block, no_block, no_page}
@@ -63,4 +63,4 @@ module _ (g : Settings) where
     by_move = λ b d s hb l f h. holding_move b d (use_of s b) s (busy_not_free s b d hb f) l h;
     by_dead = λ b s hb e h. holding_erase b s (λ u k nm. let o = h.valid u b k nm in
         none_live s.places b (held s b).pages 0 k u e (nm ∙ ap (λ y. Some (at b y)) (omega arith)) o.0 o.1) h;
-  }) (λ i s h. record { valid = h.valid; long = h.long }) (λ s e h. record { valid = h.valid; long = h.long })
+  }) (λ i s h. search rules) (λ s e h. search rules)

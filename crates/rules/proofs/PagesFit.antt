@@ -1,5 +1,5 @@
 -- Blocks hold no more than they can, free ones nothing, and what was done fits: kept by moves and by levelling.
-use Rattle.std.proofs.Common.{◌≡◌, ℕ, suc, ◌+◌, ◌<◌, ◌≤◌, true, List, [], ◌∷◌, length, get_or, All, None, Option, sym, refl, ap, ◌∙◌, arith}
+use Rattle.std.proofs.Common.{◌≡◌, ℕ, suc, ◌+◌, ◌<◌, ◌≤◌, true, List, [], ◌∷◌, length, get_or, All, None, Option, sym, refl, ap, ◌∙◌, arith, rules}
 use Rattle.std.proofs.lemmas.List.{length-set, get_or-set_other, length_push}
 use Rattle.std.proofs.lemmas.List.Elements.{All-nil, All-cons, All-head, All-tail, All-push}
 use Rattle.std.proofs.lemmas.Bool.{true≢false, cond_both}
@@ -145,5 +145,5 @@ module _ (was : Flash) where
     pub fit_level : (turns : ℕ) (s : State) → PagesFit was s → PagesFit was (level_in turns g s)
     unfolding turn_to end_round
     fit_level = settle_level g (PagesFit was) (record { by_move = λ b c s hb l f h. (fit_move b c (use_of s b) s hb hb l f h).0; by_dead = λ b s hb e h. fit_dead b s hb h })
-        (λ i s h. record { chips = h.chips; tables = h.tables; good = h.good; blanks = h.blanks; runs = h.runs })
-        (λ s e h. record { chips = h.chips; tables = h.tables; good = h.good; blanks = h.blanks; runs = h.runs })
+        (λ i s h. search rules)
+        (λ s e h. search rules)

@@ -1,5 +1,5 @@
 -- Operations that fit the blocks, and that a chip accepts them where no block is erased twice.
-use Rattle.std.proofs.Common.{◌≡◌, ℕ, suc, ◌+◌, ◌<◌, ◌≤◌, eqb, List, [], ◌∷◌, ◌++◌, length, Some, None, Option, sym, refl, ap, ◌∙◌, subst, arith}
+use Rattle.std.proofs.Common.{◌≡◌, ℕ, suc, ◌+◌, ◌<◌, ◌≤◌, eqb, List, [], ◌∷◌, ◌++◌, length, Some, None, Option, sym, refl, ap, ◌∙◌, subst, arith, rules}
 use Rattle.std.proofs.lemmas.List.{length-set, get_or-set_same, get_or-set_other}
 use Rattle.std.proofs.lemmas.Bool.{cond_both, eqb-true, eqb-false}
 use Rattle.std.proofs.lemmas.Bool.Decides.{nat_tests}
@@ -32,8 +32,8 @@ pub record Shaped (z f : Flash) : Type 0 where
   pub e_is : f.e ≡ z.e
 
 apply_shaped : (z : Flash) (o : Op) (f : Flash) → Shaped z f → Shaped z (apply o f)
-apply_shaped z (program b q) f s = record { blocks_are = length-set f.blocks b _ ∙ s.blocks_are; p_is = s.p_is; d_is = s.d_is; e_is = s.e_is }
-apply_shaped z (erase b) f s = record { blocks_are = length-set f.blocks b _ ∙ s.blocks_are; p_is = s.p_is; d_is = s.d_is; e_is = s.e_is }
+apply_shaped z (program b q) f s = (search rules)
+apply_shaped z (erase b) f s = (search rules)
 
 -- a block's count grows by the times that it is erased
 pub runs_times : (z : Flash) (os : List Op) (f h : Flash) → length f.blocks ≡ length z.blocks → Runs z os f h → (b : ℕ) → count_at f b + times_erased b os ≡ count_at h b

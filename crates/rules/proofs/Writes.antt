@@ -1,5 +1,5 @@
 -- The steps of a write before its levelling keep what a started leveller keeps.
-use Rattle.std.proofs.Common.{◌≡◌, ℕ, ◌/◌, ◌<◌, true, false, ◌⊎◌, length, get_or, set, sym, refl, ap, ◌∙◌, subst, inl, inr, arith}
+use Rattle.std.proofs.Common.{◌≡◌, ℕ, ◌/◌, ◌<◌, true, false, ◌⊎◌, length, get_or, set, sym, refl, ap, ◌∙◌, subst, inl, inr, arith, rules}
 use Rattle.std.proofs.lemmas.List.{length-set, get_or-set_same, get_or-set_other}
 use Rattle.flash.specs.Meaning.{Page}
 use Rattle.rules.specs.declared.Settings.{Settings}
@@ -32,7 +32,7 @@ module _ (g : Settings) (n m : ℕ) where
   unfolding use_block
   like_put b u s hu rd x l h ne = (
     record {
-      sized = record { sets = rd.sized.sets; chips = rd.sized.chips; tables = length-set s.uses b u ∙ rd.sized.tables; flagged = rd.sized.flagged };
+      sized = search rules;
       marked = rd.marked;
       freed = λ p x l h. rd.freed p x l (set_free s.uses b x u hu h);
       some = (x, omega (arith, length-set s.uses b u), get_or-set_other s.uses b x u Free ne ∙ h);
@@ -85,7 +85,7 @@ module _ (g : Settings) (n m : ℕ) where
       let rd = ro.ready in
       store_by (Roomed before) s q (λ _. ro) (λ b l e. unfold program_page in (record {
         ready = record {
-          sized = record { sets = rd.sized.sets; chips = length-set s.chip.blocks b _ ∙ rd.sized.chips; tables = rd.sized.tables; flagged = rd.sized.flagged };
+          sized = search rules;
           marked = rd.marked;
           freed = rd.freed;
           some = rd.some;
