@@ -1,6 +1,6 @@
 -- Every call on a sound leveller, refused or not.
-use Rattle.std.proofs.Common.{◌≡◌, ℕ, zero, suc, ◌*◌, ◌/◌, ◌<◌, ◌≤◌, Bool, false, not, eqb, List, [], length, get_or, replicate, IfSome, Some, None, Ok, Option, ⊎_elim, sym, refl, ap, ◌∙◌, inl, arith}
-use Rattle.std.proofs.lemmas.List.{length-set, length-replicate, get_or-replicate, get_or_past}
+use Rattle.std.proofs.Common.{◌≡◌, ℕ, zero, suc, ◌*◌, ◌/◌, ◌<◌, ◌≤◌, Bool, false, not, eqb, List, [], length, get_or, replicate, IfSome, Some, None, Ok, Option, ⊎_elim, sym, refl, ap, ◌∙◌, inl, arith, rules}
+use Rattle.std.proofs.lemmas.List.{length-replicate, get_or-replicate, get_or_past}
 use Rattle.std.proofs.lemmas.Bool.{cases_lt, not-false, eqb-true}
 use Rattle.std.proofs.lemmas.Bool.Decides.{nat_tests}
 use Rattle.flash.specs.Meaning.{Flash, Block, block, no_block, page}
@@ -74,23 +74,9 @@ read_keeps l t buffer h = started_by (λ o. Sound (left o)) (λ x. read_checks x
 
 -- discard: the map names less
 forgotten_well : (x : Tables) (f : Flash) (t : ℕ) → WellFormed x f → WellFormed (forgotten t x) f
-forgotten_well x f t k = record {
-  fitting = k.fitting;
-  uses_each = k.uses_each;
-  marks_each = k.marks_each;
-  places_each = length-set x.places t None ∙ k.places_each;
-  flags_each = k.flags_each;
-  named = λ u b i. set_by (λ o. o ≡ Some (record { block = b; page = i }) → (i < length (block f b).pages) × ((page f b i).tag ≡ u)) x.places t u None None (λ _ q. absurd (cc)) (k.named u b i);
-  free_blank = k.free_blank;
-  some_free = k.some_free;
-  one_open = k.one_open;
-  flags_counted = k.flags_counted;
-  levelled = k.levelled;
-  findex_below = k.findex_below;
-  free_flagged = k.free_flagged;
-  marks_past = k.marks_past;
-  rounds_paid = k.rounds_paid;
-}
+forgotten_well x f t k =
+    let named = λ (u b i : ℕ). set_by (λ o. o ≡ Some (record { block = b; page = i }) → (i < length (block f b).pages) × ((page f b i).tag ≡ u)) x.places t u None None (λ _ q. absurd (cc)) (k.named u b i) in
+    search rules
 
 pub discard_keeps : DiscardKeeps
 unfolding discard

@@ -1,6 +1,6 @@
 -- A turn of levelling: what it keeps, and that it sets one flag more.
 use Rattle.std.proofs.Common.{◌≡◌, ℕ, suc, ◌*◌, ◌/◌, ◌+◌, ◌<◌, ◌≤◌, true, false, cond, length, get_or, sym, refl, ap, ◌∙◌, mul-le-mul_right, div-lt_iff_lt-mul, le-div_iff_mul-le, arith, rules}
-use Rattle.std.proofs.lemmas.List.{length-set, get_or-set_other, length-replicate, get_or_default}
+use Rattle.std.proofs.lemmas.List.{get_or-set_other, length-replicate, get_or_default}
 use Rattle.std.proofs.lemmas.List.Sums.{count_by-le-length}
 use Rattle.std.proofs.lemmas.Bool.{true≢false}
 use Rattle.std.proofs.lemmas.Bool.Decides.{nat_tests}
@@ -35,10 +35,10 @@ module _ (g : Settings) (n m : ℕ) where
   pub counted_stable : Stable g Counted
   unfolding use_block program_page erase_block count_erase
   counted_stable = record {
-    by_put = λ b u s hu q. ((search rules), q.1);
-    by_program = λ b p s q. ((search rules), q.1);
+    by_put = λ b u s hu q. search rules;
+    by_program = λ b p s q. search rules;
     by_erase = λ b s hb q. (
-      (search rules),
+      search rules,
       ones_set s.meter.flags (b / set_size g) (set_of g n m s q.0 b (omega (arith, busy_below s b hb, q.0.tables))) ∙ ap (λ k. cond (get_or s.meter.flags (b / set_size g) true) k (suc k)) q.1,
     );
   }

@@ -37,7 +37,7 @@ pub record Holding (s : State) : Type 0 where
 
 pub holding_put : (b : ℕ) (u : Use) (s : State) → Holding s → Holding (use_block b u s)
 unfolding use_block
-holding_put b u s h = record { valid = h.valid; long = h.long ∙ sym (length-set s.uses b u) }
+holding_put b u s h = search rules
 
 module _ (g : Settings) where
   holding_erase : (b : ℕ) (s : State) → ((u k : ℕ) → Named s u b k → ⊥) → Holding s → Holding (erase_block g b s)

@@ -81,7 +81,7 @@ module _ (was : Flash) where
 
   pub fit_put : (b : ℕ) (u : Use) (s : State) → busy u ≡ true → PagesFit was s → PagesFit was (use_block b u s)
   unfolding use_block
-  fit_put b u s hu h = record { chips = h.chips; tables = length-set s.uses b u ∙ h.tables; good = h.good; blanks = λ x f. h.blanks x (set_free s.uses b x u hu f); runs = h.runs }
+  fit_put b u s hu h = search (rules, set_free)
 
   module _ (g : Settings) where
     kept_pages : (b : ℕ) (s : State) (x : ℕ) → (x ≡ b → ⊥) → (held (erase_block g b s) x).pages ≡ (held s x).pages

@@ -32,8 +32,8 @@ pub record Shaped (z f : Flash) : Type 0 where
   pub e_is : f.e ≡ z.e
 
 apply_shaped : (z : Flash) (o : Op) (f : Flash) → Shaped z f → Shaped z (apply o f)
-apply_shaped z (program b q) f s = (search rules)
-apply_shaped z (erase b) f s = (search rules)
+apply_shaped z (program b q) f s = search rules
+apply_shaped z (erase b) f s = search rules
 
 -- a block's count grows by the times that it is erased
 pub runs_times : (z : Flash) (os : List Op) (f h : Flash) → length f.blocks ≡ length z.blocks → Runs z os f h → (b : ℕ) → count_at f b + times_erased b os ≡ count_at h b
@@ -79,7 +79,7 @@ runs_shaped z [] f h r s = subst (Shaped z) r s
 runs_shaped z (o ∷ os) f h r s = runs_shaped z os (apply o f) h r.1 (apply_shaped z o f s)
 
 pub own_shape : (f : Flash) → Shaped f f
-own_shape f = record { blocks_are = refl; p_is = refl; d_is = refl; e_is = refl }
+own_shape f = search rules
 
 pub shape : (os : List Op) (f h : Flash) → Runs f os f h → Shaped f h
 shape os f h r = runs_shaped f os f h r (own_shape f)

@@ -83,16 +83,7 @@ module _ (g : Settings) (n m : ℕ) where
   stores : (before : Meter) (q : Page) (s : State) → Roomed before s → Roomed before (store q s)
   stores before q s ro =
       let rd = ro.ready in
-      store_by (Roomed before) s q (λ _. ro) (λ b l e. unfold program_page in (record {
-        ready = record {
-          sized = search rules;
-          marked = rd.marked;
-          freed = rd.freed;
-          some = rd.some;
-          seeking = rd.seeking;
-        };
-        meter = ro.meter;
-      }))
+      store_by (Roomed before) s q (λ _. ro) (λ b l e. unfold program_page in search rules)
 
   -- a write up to its levelling
   pub writes : (r : BlockOrder) (q : Page) (s : State) → Ready g n m s → Roomed s.meter (store q (make_room g r s))

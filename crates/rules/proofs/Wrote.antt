@@ -1,5 +1,5 @@
 -- An accepted write on a well-formed leveller: all that it keeps.
-use Rattle.std.proofs.Common.{◌≡◌, ℕ, suc, ◌-◌, ◌*◌, ◌%◌, ◌<◌, ◌≤◌, true, false, ◌&&◌, eqb, leb, List, [], ◌∷◌, length, get_or, ⊎_elim, Some, sym, refl, ap, ◌∙◌, subst, arith}
+use Rattle.std.proofs.Common.{◌≡◌, ℕ, suc, ◌-◌, ◌*◌, ◌%◌, ◌<◌, ◌≤◌, true, false, ◌&&◌, eqb, leb, List, [], ◌∷◌, length, get_or, ⊎_elim, Some, sym, refl, ap, ◌∙◌, subst, arith, rules}
 use Rattle.std.proofs.lemmas.List.{get_or_past}
 use Rattle.std.proofs.lemmas.List.Elements.{All-nil, All-from_get_or}
 use Rattle.std.proofs.lemmas.Bool.{cases_lt}
@@ -32,19 +32,13 @@ use Rattle.rules.proofs.Fits.{InNumbers, in_numbers, not_worn}
 -- what a step's proofs ask of the beginning of a call
 module _ (x : Tables) (f : Flash) (k : WellFormed x f) where
   begin_ready : Ready x.settings (length f.blocks) (length x.meter.flags) (begin x f)
-  begin_ready = record {
-    sized = record { sets = k.flags_each; chips = refl; tables = k.uses_each; flagged = refl };
-    marked = k.flags_counted;
-    freed = k.free_flagged;
-    some = k.some_free;
-    seeking = k.findex_below;
-  }
+  begin_ready = search rules
 
   begin_booked : Booked x.settings.logical (length f.blocks) (begin x f)
-  begin_booked = record { mapped = k.places_each; marked = k.marks_each; past = k.marks_past; paid = k.rounds_paid; blocks = refl; tables = k.uses_each }
+  begin_booked = search rules
 
   begin_holding : Holding (begin x f)
-  begin_holding = record { valid = k.named; long = sym k.uses_each }
+  begin_holding = search rules
 
   begin_fits : ChipFits f → PagesFit f (begin x f)
   begin_fits c = record {
