@@ -21,25 +21,13 @@ pub busy_not_free : (s : State) (b d : ℕ) → Busy s b → use_of s d ≡ Free
 busy_not_free s b d h f e = true≢false (sym h ∙ ap (λ x. busy (use_of s x)) e ∙ ap busy f)
 
 pub busy_of : (u : Use) → (u ≡ Free → ⊥) → busy u ≡ true
-busy_of Free h = absurd (h refl)
-busy_of Open h = refl
-busy_of Closed h = refl
+busy_of u h = grind arith
 
 is_use : (u v : Use) → same_use u v ≡ true → v ≡ u
-is_use Free Free h = refl
-is_use Free Open h = cc
-is_use Free Closed h = cc
-is_use Open Free h = cc
-is_use Open Open h = refl
-is_use Open Closed h = cc
-is_use Closed Free h = cc
-is_use Closed Open h = cc
-is_use Closed Closed h = refl
+is_use u v h = grind arith
 
 own_use : (u : Use) → same_use u u ≡ true
-own_use Free = refl
-own_use Open = refl
-own_use Closed = refl
+own_use u = grind arith
 
 Contains-cons : {X : Type 0} (x y : X) (xs : List X) → Contains xs x → Contains (y ∷ xs) x
 Contains-cons x y xs c = (suc c.0, omega (arith, c.1), c.2)
