@@ -49,12 +49,10 @@ seek_finds (suc k) fs i j li lj e h = cond_both (get_or fs i false) (seek k fs (
     apart q z = true≢false (sym q ∙ ap (λ x. get_or fs x false) z ∙ e)
 
     wrapped : suc i ≡ length fs → (i ≡ j → ⊥) → Ahead (suc k) fs i j → (0 ≤ j) × (j < 0 + k)
-    wrapped q ne (inl h) = absurd (ne (omega (arith, h.0)))
-    wrapped q ne (inr h) = (omega arith, omega (arith, h.1))
+    wrapped q ne h = (omega arith, grind arith)
 
     stepped : (i ≡ j → ⊥) → Ahead (suc k) fs i j → Ahead k fs (suc i) j
-    stepped ne (inl h) = inl (omega (arith, h.0), omega (arith, h.1))
-    stepped ne (inr h) = inr (omega (arith, h.0), omega (arith, h.1))
+    stepped ne h = grind arith
 
 -- where a flag is clear, as many moves as there are sets reach one
 pub seek_clear : (bs : List Bool) (i : ℕ) → i < length bs → ones bs < length bs → (seek (length bs) bs i < length bs) × (get_or bs (seek (length bs) bs i) true ≡ false)

@@ -104,7 +104,7 @@ close_counted s x = close_open_by (λ t. counted t x ≡ counted s x) s (λ _. r
 
 module _ (g : Settings) (n m : ℕ) (was : ℕ → ℕ) where
   at_most : (s : State) → Once g was s → AtMost was s
-  at_most s o x = ⊎_elim (λ (e : counted s x ≡ was x). (omega arith, omega arith)) (λ e. (omega (arith, e.0), omega (arith, e.0))) (o x)
+  at_most s o x = let h = o x in (grind arith, grind arith)
 
   once_next : (s : State) → Ready g n m s → s.meter.fcnt < m → Once g was s → Once g was (collect_next g s)
   unfolding collect_next turn_to

@@ -33,13 +33,13 @@ pub moved_open : (g : Settings) (s : State) (b d x : ℕ) (u : Use) → b < leng
 moved_open g s b d x u lb ld = moved_use (λ v. v ≡ Open → MovedOpen s b d u x) g b d u s x lb ld (λ e k. inl (e, k)) (λ _ _ k. absurd (cc)) (λ _ n k. inr (k, n))
 
 one_moved : (g : Settings) (b d : ℕ) (u : Use) (s : State) → b < length s.uses → d < length s.uses → (u ≡ Open → (x : ℕ) → use_of s x ≡ Open → x ≡ b) → OneOpen s → OneOpen (move g b d u s)
-one_moved g b d u s lb ld only o x y hx hy = go (moved_open g s b d x u lb ld hx) (moved_open g s b d y u lb ld hy)
-  where
-    go : MovedOpen s b d u x → MovedOpen s b d u y → x ≡ y
-    go (inl p) (inl q) = p.0 ∙ sym q.0
-    go (inl p) (inr q) = absurd (q.1 (only p.1 y q.0))
-    go (inr p) (inl q) = absurd (p.1 (only q.1 x p.0))
-    go (inr p) (inr q) = o x y p.0 q.0
+one_moved g b d u s lb ld only o x y hx hy =
+    let mx = moved_open g s b d x u lb ld hx in
+    let my = moved_open g s b d y u lb ld hy in
+    let ox = λ (e : u ≡ Open). only e x in
+    let oy = λ (e : u ≡ Open). only e y in
+    let both = o x y in
+    grind arith
 
 pub one_level : (g : Settings) (turns : ℕ) (s : State) → OneOpen s → OneOpen (level_in turns g s)
 unfolding erase_block turn_to end_round
@@ -53,9 +53,7 @@ closes_open s o = close_open_by NoOpen s (λ none. none) (λ b l e x. unfold use
     set_cases (λ v. v ≡ Open → ⊥) s.uses b x Closed Free l (λ _ h. absurd (cc)) (λ n h. n (o x b h e)))
 
 closed_of : (u : Use) → (u ≡ Free → ⊥) → (u ≡ Open → ⊥) → u ≡ Closed
-closed_of Free f o = absurd (f refl)
-closed_of Open f o = absurd (o refl)
-closed_of Closed f o = refl
+closed_of u f o = grind arith
 
 -- where none is open and d alone is free, the other blocks are closed
 pub others_closed : (s : State) (d : ℕ) → NoOpen s → ((x : ℕ) → x < length s.uses → use_of s x ≡ Free → x ≡ d) → (x : ℕ) → x < length s.uses → (x ≡ d → ⊥) → use_of s x ≡ Closed
