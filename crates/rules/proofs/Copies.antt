@@ -26,7 +26,7 @@ abbrev pub Valid : State → Type 0
 Valid s = (t b i : ℕ) → Named s t b i → (i < length (held s b).pages) × ((page_at s b i).tag ≡ t)
 
 place_below : (m : List (Option Place)) (t : ℕ) (q : Place) → get_or m t None ≡ Some q → t < length m
-place_below m t q h = ⊎_elim (λ l. l) (λ l. let e = get_or_past m t None l in absurd (cc)) (cases_lt t (length m))
+place_below m t q h = grind (arith, get_or_past)
 
 same_place : (b i b' i' : ℕ) → ◌≡◌ {A = Option Place} (Some (at b i)) (Some (at b' i')) → (b ≡ b') × (i ≡ i')
 same_place b i b' i' e = let p = same_Some (at b i) (at b' i') e in (ap (λ (q : Place). q.block) p, ap (λ (q : Place). q.page) p)

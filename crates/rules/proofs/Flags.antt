@@ -17,11 +17,7 @@ ones_clear (true ∷ bs) h = let r = ones_clear bs (omega (arith, sum_by-cons co
 ones_clear (false ∷ bs) h = (0, omega arith, refl)
 
 pub ones_set : (bs : List Bool) (i : ℕ) → i < length bs → ones (set bs i true) ≡ cond (get_or bs i true) (ones bs) (suc (ones bs))
-ones_set bs i h = go (get_or bs i true) (sum_by-set count_of bs i true true h)
-  where
-    go : (v : Bool) → ones (set bs i true) + count_of v ≡ ones bs + 1 → ones (set bs i true) ≡ cond v (ones bs) (suc (ones bs))
-    go true e = omega arith
-    go false e = omega arith
+ones_set bs i h = let e = sum_by-set count_of bs i true true h in grind arith
 
 pub ones_some : (bs : List Bool) (i : ℕ) → i < length bs → get_or bs i true ≡ true → 1 ≤ ones bs
 ones_some bs i h e = omega (arith, get_or-le-sum_by count_of bs i true h, ap count_of e)
@@ -59,7 +55,7 @@ pub seek_clear : (bs : List Bool) (i : ℕ) → i < length bs → ones bs < leng
 seek_clear bs i li h =
     let at = ones_clear bs h in
     let j = at.0 in
-    let f = seek_finds (length bs) bs i j li at.1 (sym (get_or_default bs j true false at.1) ∙ at.2) (⊎_elim (λ l. inr (l, omega (arith, at.1))) (λ l. inl (l, omega (arith, at.1))) (cases_lt j i)) in
+    let f = seek_finds (length bs) bs i j li at.1 (sym (get_or_default bs j true false at.1) ∙ at.2) (let lt = at.1 in grind arith) in
     (f.0, get_or_default bs (seek (length bs) bs i) true false f.0 ∙ f.1)
 
 pub next_below : (n i : ℕ) → i < n → next n i < n

@@ -15,7 +15,7 @@ use Rattle.rules.specs.WellFormed.{busy}
 use Rattle.rules.proofs.StateFacts.{Busy, NoOpen, NoneIn}
 
 pub busy_below : (s : State) (b : ℕ) → Busy s b → b < length s.uses
-busy_below s b h = ⊎_elim (λ l. l) (λ l. absurd (true≢false (sym h ∙ ap busy (get_or_past s.uses b Free l)))) (cases_lt b (length s.uses))
+busy_below s b h = grind (arith, get_or_past)
 
 pub busy_not_free : (s : State) (b d : ℕ) → Busy s b → use_of s d ≡ Free → b ≡ d → ⊥
 busy_not_free s b d h f e = true≢false (sym h ∙ ap (λ x. busy (use_of s x)) e ∙ ap busy f)

@@ -89,13 +89,12 @@ new_sound f c = record { chip_fits = c; kept = tt }
 
 -- start
 replicate_at : {X : Type 0} (n b : ℕ) (v : X) → get_or (replicate n v) b v ≡ v
-replicate_at n b v = ⊎_elim (get_or-replicate n b v v) (λ l. get_or_past (replicate n v) b v (omega (arith, length-replicate n v))) (cases_lt b n)
+replicate_at n b v = grind (arith, get_or-replicate, get_or_past, length-replicate)
 
 blank_blocks : (f : Flash) → has_written f ≡ false → (b : ℕ) → length (block f b).pages ≡ 0
-blank_blocks f h b = ⊎_elim
-    (λ l. eqb-true _ 0 (not-false _ (none_passes (λ x. not (eqb (length x.pages) 0)) f.blocks h b l)))
-    (λ l. ap (λ (y : Block). length y.pages) (get_or_past f.blocks b no_block l))
-    (cases_lt b (length f.blocks))
+blank_blocks f h b =
+    let none = none_passes (λ x. not (eqb (length x.pages) 0)) f.blocks h b in
+    grind (arith, nat_tests, none, get_or_past)
 
 start_well : (f : Flash) (g : Settings) → Fitting g f → has_written f ≡ false → WellFormed (fresh_tables f g) f
 start_well f g fit blank =

@@ -120,11 +120,12 @@ module _ (g : Settings) (n m : ℕ) (was : ℕ → ℕ) where
       (λ e ne. let less : s.meter.fcnt < m = omega (arith, flags_below g n m s rd, rd.sized.flagged) in
       once_level f (collect_next g s) (turns g n m s rd (not_even g s.meter e).0 less).ready (once_next s rd less o))
 
+  once_program : (b : ℕ) (q : Page) (s : State) → Once g was s → Once g was (program_page b q s)
+  unfolding program_page
+  once_program b q s o x = let h = o x in let c = program_counted b q s x in grind arith
+
   once_store : (q : Page) (s : State) → Once g was s → Once g was (store q s)
-  once_store q s o = store_by (Once g was) s q (λ _. o) (λ b l e x. ⊎_elim {B = (counted s x ≡ suc (was x)) × (get_or s.meter.flags (x / set_size g) false ≡ true)}
-      (λ h. inl (program_counted b q s x ∙ h))
-      (λ h. inr (program_counted b q s x ∙ h.0, unfold program_page in h.1))
-      (o x))
+  once_store q s o = store_by (Once g was) s q (λ _. o) (λ b l e. once_program b q s o)
 
 module _ (g : Settings) (n m : ℕ) where
   once_room : (r : BlockOrder) (s : State) → Ready g n m s → Once g (counted s) (make_room g r s)

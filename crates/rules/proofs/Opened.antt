@@ -61,10 +61,9 @@ others_closed s d nop only x l ne = closed_of (use_of s x) (λ e. ne (only x l e
 
 -- and of two blocks one is
 pub some_closed : (s : State) (d : ℕ) → 2 ≤ length s.uses → NoOpen s → ((x : ℕ) → x < length s.uses → use_of s x ≡ Free → x ≡ d) → NoneIn Closed s → ⊥
-some_closed s d two nop only none = ⊎_elim
-    (λ e. none 1 (omega arith) (others_closed s d nop only 1 (omega arith) (λ z. omega arith)))
-    (λ e. none 0 (omega arith) (others_closed s d nop only 0 (omega arith) (λ z. e (sym z))))
-    (cases_eq d 0)
+some_closed s d two nop only none =
+    let c = others_closed s d nop only in
+    grind (arith, none 0, none 1, c 0, c 1)
 
 -- what making room gives
 pub record Opened (t : State) : Type 0 where

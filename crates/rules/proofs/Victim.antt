@@ -1,5 +1,5 @@
 -- What is chosen by a victim order goes before all the others.
-use Rattle.std.proofs.Common.{◌≡◌, ℕ, true, not, List, [], ◌∷◌, map, get_or, IfSome, All, Some, None, Option, ⊎_elim, sym, refl, ap, ◌∙◌}
+use Rattle.std.proofs.Common.{◌≡◌, ℕ, true, not, List, [], ◌∷◌, map, get_or, IfSome, All, Some, None, Option, ⊎_elim, sym, refl, ap, ◌∙◌, arith}
 use Rattle.std.proofs.lemmas.Bool.{cases_eq, cond_both}
 use Rattle.std.proofs.lemmas.List.Elements.{All-cons, All-weaker, Contains-get_or}
 use Rattle.orders.specs.declared.block.BlockRecord.{BlockRecord}
@@ -20,13 +20,9 @@ module _ (r : BlockOrder) (s : State) where
 module _ (r : BlockOrder) (vo : VictimOrder r) (s : State) where
   -- a goes before c, which goes before b
   through : (a c b : ℕ) → r (record_of s a) (record_of s c) ≡ true → Leads r s c b → Leads r s a b
-  through a c b h l ne = ⊎_elim
-      (λ e. ap (λ y. r (record_of s a) (record_of s y)) e ∙ h)
-      (λ e. ⊎_elim
-      (λ q. ap (λ y. r (record_of s y) (record_of s b)) (sym q) ∙ l e)
-      (λ q. vo.transitive (record_of s a) (record_of s c) (record_of s b) (λ z. q (sym z)) (λ z. e (sym z)) (λ z. ne (sym z)) h (l e))
-      (cases_eq c a))
-      (cases_eq b c)
+  through a c b h l ne =
+      let t = vo.transitive (record_of s a) (record_of s c) (record_of s b) in
+      grind (arith, l, t)
 
   pub leads : (bs : List ℕ) → IfSome (first r (map (record_of s) bs)) (Leader r s bs)
   leads [] = tt
