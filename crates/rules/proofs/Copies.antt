@@ -1,7 +1,7 @@
 -- Copying the live pages of a block leaves none of them named there, and all named pages written.
 use Rattle.std.proofs.Common.{◌≡◌, ℕ, suc, ◌+◌, ◌<◌, ◌≤◌, true, false, List, [], ◌∷◌, ◌++◌, length, drop, get_or, Some, None, Option, ⊎_elim, sym, refl, ap, ◌∙◌, subst, arith}
 use Rattle.std.proofs.lemmas.List.{length-set, length-drop, get_or-drop, drop-drop, get_or-set_same, get_or-set_other, length_push, get_or_push, get_or_append_left, get_or_past}
-use Rattle.std.proofs.lemmas.Bool.{true≢false, cases_eq, cases_lt, cond_both}
+use Rattle.std.proofs.lemmas.Bool.{true≢false, cases_eq, cond_both}
 use Rattle.std.proofs.lemmas.Option.{same_Some}
 use Rattle.std.proofs.lemmas.Bool.Decides.{nat_tests}
 use Rattle.flash.specs.Meaning.{Page, Block, no_block, no_page}

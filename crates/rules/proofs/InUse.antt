@@ -1,14 +1,14 @@
 -- The blocks in a use, and the first of them in an order.
-use Rattle.std.proofs.Common.{◌≡◌, ℕ, zero, suc, ◌<◌, Bool, true, List, [], ◌∷◌, map, length, get_or, slice_get, ⊎_elim, filter, All, AllPairs, Contains, IfSome, Some, None, Option, sym, refl, ap, ◌∙◌, arith}
+use Rattle.std.proofs.Common.{◌≡◌, ℕ, zero, suc, ◌<◌, Bool, true, List, [], ◌∷◌, map, length, get_or, slice_get, filter, All, AllPairs, Contains, IfSome, Some, None, Option, sym, refl, ap, ◌∙◌, arith}
 use Rattle.std.specs.List.{range_with_len}
 use Rattle.std.proofs.lemmas.List.{get_or_past}
 use Rattle.std.proofs.lemmas.List.FromFn.{length-range_with_len, get_or-range_with_len}
 use Rattle.std.proofs.lemmas.List.Elements.{All-filter, filter_passes, All-head, All-tail, All-map}
 use Rattle.std.proofs.lemmas.List.Kept.{AllPairs-filter}
-use Rattle.std.proofs.lemmas.Bool.{true≢false, cases_lt, cond_both}
+use Rattle.std.proofs.lemmas.Bool.{true≢false, cond_both}
 use Rattle.orders.specs.declared.block.BlockRecord.{BlockRecord}
 use Rattle.rules.specs.declared.Use.{Use}
-use Rattle.rules.specs.declared.Use.TheVariants.{Free, Open, Closed}
+use Rattle.rules.specs.declared.Use.TheVariants.{Free, Open}
 use Rattle.rules.specs.Tables.{State}
 use Rattle.rules.specs.Blocks.{BlockOrder, same_use, use_of, blocks_in, record_of, records, better, first, open_block}
 use Rattle.rules.specs.WellFormed.{busy}

@@ -1,9 +1,8 @@
 -- Every call on a sound leveller, refused or not.
-use Rattle.std.proofs.Common.{◌≡◌, ℕ, zero, suc, ◌*◌, ◌/◌, ◌<◌, ◌≤◌, Bool, false, not, eqb, List, [], length, get_or, replicate, IfSome, Some, None, Ok, Option, ⊎_elim, sym, refl, ap, ◌∙◌, inl, arith, rules}
+use Rattle.std.proofs.Common.{◌≡◌, ℕ, zero, suc, ◌*◌, ◌/◌, ◌<◌, ◌≤◌, Bool, false, not, eqb, List, [], length, get_or, replicate, IfSome, Some, None, Ok, Option, sym, refl, ap, ◌∙◌, inl, arith, rules}
 use Rattle.std.proofs.lemmas.List.{length-replicate, get_or-replicate, get_or_past}
-use Rattle.std.proofs.lemmas.Bool.{cases_lt, not-false, eqb-true}
 use Rattle.std.proofs.lemmas.Bool.Decides.{nat_tests}
-use Rattle.flash.specs.Meaning.{Flash, Block, block, no_block, page}
+use Rattle.flash.specs.Meaning.{Flash, block, page}
 use Rattle.rules.specs.declared.Settings.{Settings}
 use Rattle.rules.specs.declared.Place.{Place}
 use Rattle.rules.specs.declared.Use.TheVariants.{Free}

@@ -1,8 +1,8 @@
 -- No block is erased twice in one write.
-use Rattle.std.proofs.Common.{◌≡◌, ℕ, zero, suc, ◌+◌, ◌/◌, ◌<◌, ◌≤◌, true, false, ◌⊎◌, length, get_or, set, ⊎_elim, sym, refl, ap, ◌∙◌, inl, inr, arith, ◌*◌}
+use Rattle.std.proofs.Common.{◌≡◌, ℕ, zero, suc, ◌+◌, ◌/◌, ◌<◌, ◌≤◌, true, false, ◌⊎◌, length, get_or, set, ⊎_elim, sym, refl, ap, ◌∙◌, inl, arith, ◌*◌}
 use Rattle.std.specs.List.{range_with_len}
 use Rattle.std.proofs.lemmas.List.{length-set, get_or-set_same, get_or-set_other}
-use Rattle.std.proofs.lemmas.Bool.{cases_eq, true≢false}
+use Rattle.std.proofs.lemmas.Bool.{true≢false}
 use Rattle.flash.specs.Meaning.{Block, no_block, Page}
 use Rattle.rules.specs.declared.Settings.{Settings}
 use Rattle.rules.specs.declared.Use.{Use}
@@ -63,16 +63,11 @@ module _ (g : Settings) (was : ℕ → ℕ) where
   pub passed_hit : (b : ℕ) (s t : State) → b / set_size g < length s.meter.flags → counted s b ≡ was b → Once s → Hit g b s t → Passed b s t
   unfolding count_erase
   passed_hit b s t l e o h = record {
-    once = λ x. ⊎_elim
-        (λ q. inr (
-          ap (counted t) q ∙ h.own ∙ ap suc (e ∙ ap was (sym q)),
-          ap (λ y. get_or t.meter.flags (y / set_size g) false) q ∙ ap (λ fs. get_or fs (b / set_size g) false) flags ∙ get_or-set_same s.meter.flags (b / set_size g) true false l,
-        ))
-        (λ q. ⊎_elim
-        (λ p. inl (h.others x q ∙ p))
-        (λ p. inr (h.others x q ∙ p.0, ap (λ fs. get_or fs (x / set_size g) false) flags ∙ set_by (λ v. v ≡ true) s.meter.flags (b / set_size g) (x / set_size g) true false (λ _. refl) p.1))
-        (o x))
-        (cases_eq x b);
+    once = λ x. (let ox = o x in
+        let other = h.others x in
+        let kept = λ (k : get_or s.meter.flags (x / set_size g) false ≡ true). set_by (λ v. v ≡ true) s.meter.flags (b / set_size g) (x / set_size g) true false (λ _. refl) k in
+        let here : x ≡ b → get_or t.meter.flags (x / set_size g) false ≡ true = λ q. ap (λ y. get_or t.meter.flags (y / set_size g) false) q ∙ ap (λ fs. get_or fs (b / set_size g) false) flags ∙ get_or-set_same s.meter.flags (b / set_size g) true false l in
+        grind (arith, flags));
     others = h.others;
     long = h.long;
     flagged = ap length flags ∙ length-set s.meter.flags (b / set_size g) true;
