@@ -1,5 +1,5 @@
 -- The flags: how many are set, and the search for a clear one.
-use Rattle.std.proofs.Common.{◌≡◌, ℕ, zero, suc, ◌+◌, ◌<◌, ◌≤◌, Bool, true, false, cond, eqb, ◌⊎◌, List, [], ◌∷◌, length, get_or, set, replicate, ⊎_elim, sym, refl, ap, ◌∙◌, inl, arith}
+use Rattle.std.proofs.Common.{◌≡◌, ℕ, zero, suc, ◌+◌, ◌<◌, ◌≤◌, Bool, true, false, cond, eqb, ◌⊎◌, List, [], ◌∷◌, length, get_or, set, replicate, sym, refl, ap, ◌∙◌, inl, arith}
 use Rattle.std.proofs.lemmas.List.{get_or_default}
 use Rattle.std.proofs.lemmas.List.Sums.{sum_by-cons, sum_by-set, get_or-le-sum_by}
 use Rattle.std.proofs.lemmas.List.Folds.{sum_by-replicate}
@@ -32,9 +32,12 @@ Found fs x = (x < length fs) × (get_or fs x false ≡ false)
 abbrev Ahead : ℕ → List Bool → ℕ → ℕ → Type 0
 Ahead k fs i j = ((i ≤ j) × (j < i + k)) ⊎ ((j < i) × (length fs + j < i + k))
 
+none_ahead : (fs : List Bool) (i j : ℕ) → i < length fs → Ahead 0 fs i j → ⊥
+none_ahead fs i j l h = grind arith
+
 -- a clear flag that is so far ahead is reached, or one before it
 seek_finds : (k : ℕ) (fs : List Bool) (i j : ℕ) → i < length fs → j < length fs → get_or fs j false ≡ false → Ahead k fs i j → Found fs (seek k fs i)
-seek_finds zero fs i j li lj e h = absurd (⊎_elim (λ (a : (i ≤ j) × (j < i + 0)). omega (arith, a.0, a.1)) (λ (a : (j < i) × (length fs + j < i + 0)). omega (arith, a.0, a.1)) h)
+seek_finds zero fs i j li lj e h = absurd (none_ahead fs i j li h)
 seek_finds (suc k) fs i j li lj e h = cond_both (get_or fs i false) (seek k fs (next (length fs) i)) i (Found fs)
     (λ q. cond_both (eqb (suc i) (length fs)) 0 (suc i) (λ x. Found fs (seek k fs x))
     (λ z. seek_finds k fs 0 j (omega arith) lj e (inl (wrapped (eqb-true (suc i) (length fs) z) (apart q) h)))
