@@ -1,12 +1,14 @@
--- Two figures compare as the products of the code do. Assumes nothing.
-use Rattle.std.specs.Prelude.{◌≡◌, ℕ, ◌+◌, ◌-◌, ◌*◌, ◌<◌, Bool, true, false, cond, ◌==◌, ◌≢◌, nat_lt, refl}
-use Rattle.std.proofs.Common.{sym, ap, ◌∙◌, mul-pos, mul-zero, arith}
-use Rattle.std.proofs.lemmas.Bool.{lt-ltb, le-ltb, eq-eqb, ne_eqb, eqb-true, eqb-false}
+-- Two figures compare as the products of the code do, and so keep the laws of an order. Assumes nothing.
+use Rattle.std.specs.Prelude.{◌≡◌, ℕ, ◌+◌, ◌-◌, ◌*◌, ◌<◌, ◌≤◌, Bool, true, false, cond, ◌==◌, ◌≢◌, nat_lt, refl}
+use Rattle.std.proofs.Common.{sym, ap, ◌∙◌, mul-pos, mul-zero, zero-mul, arith}
+use Rattle.std.proofs.lemmas.Bool.{eqb-true, eqb-false}
 use Rattle.std.proofs.lemmas.Bool.Decides.{nat_tests}
 use Rattle.orders.specs.declared.block.BlockRecord.{BlockRecord}
+use Rattle.orders.specs.Laws.{Total, Transitive}
 use Rattle.orders.specs.Products.{gained}
 use Rattle.orders.specs.Ranks.{endless, over, larger, equal, then_by, cost_benefit, least_erased}
-use Rattle.orders.specs.Cross.{larger_first}
+use Rattle.orders.specs.Cross.{cross_le}
+use Rattle.orders.specs.Victims.{FullLast}
 
 abbrev pub top : BlockRecord → ℕ
 top a = a.age * (a.pages - a.live)
@@ -32,18 +34,46 @@ compared : (a b : BlockRecord) (x y : Bool) → (a.live == 0) ≡ x → (b.live 
 compared a b true true p q =
     let u = none (top b) a.live (eqb-true _ _ p) in
     let v = none (top a) b.live (eqb-true _ _ q) in
-    (sym (le-ltb (gained b a) (gained a b) (omega arith)), sym (eq-eqb (gained b a) (gained a b) (omega arith)))
+    (grind (arith, nat_tests), grind (arith, nat_tests))
 compared a b true false p q =
     let u = none (top b) a.live (eqb-true _ _ p) in
     let v = some (top a) b.live (rich a (eqb-true _ _ p)) (eqb-false _ _ q) in
-    (sym (lt-ltb (gained b a) (gained a b) (omega arith)), sym (ne_eqb (gained b a) (gained a b) (omega arith)))
+    (grind (arith, nat_tests), grind (arith, nat_tests))
 compared a b false true p q =
     let u = some (top b) a.live (rich b (eqb-true _ _ q)) (eqb-false _ _ p) in
     let v = none (top a) b.live (eqb-true _ _ q) in
-    (sym (le-ltb (gained b a) (gained a b) (omega arith)), sym (ne_eqb (gained b a) (gained a b) (omega arith)))
+    (grind (arith, nat_tests), grind (arith, nat_tests))
 compared a b false false p q = (refl, refl)
 
-pub by_products : (a b : BlockRecord) → cost_benefit a b ≡ larger_first (gained b a) (gained a b) (least_erased a b)
+-- the larger product first, and then as least_erased
+pub by_products : (a b : BlockRecord) → cost_benefit a b ≡ then_by (nat_lt (gained b a) (gained a b)) (gained b a == gained a b) (least_erased a b)
 by_products a b =
     let both = compared a b (a.live == 0) (b.live == 0) refl refl in
     λ i. then_by (both.0 i) (both.1 i) (least_erased a b)
+
+-- c's figure is at most b's and b's at most a's, so c's is at most a's
+at_most : (a b c : BlockRecord) → gained b a ≤ gained a b → gained c b ≤ gained b c → gained c a ≤ gained a c
+at_most a b c = cross_le (top a) (2 * a.live) (top b) (2 * b.live) (top c) (2 * c.live) (real b)
+
+pub cost_benefit_total : Total (λ b. b.number) cost_benefit
+cost_benefit_total a b apart =
+    let there = by_products a b in
+    let back = by_products b a in
+    grind (arith, nat_tests)
+
+pub cost_benefit_transitive : Transitive (λ b. b.number) cost_benefit
+cost_benefit_transitive a b c ab bc ac p q =
+    let first = sym (by_products a b) ∙ p in
+    let second = sym (by_products b c) ∙ q in
+    let u = at_most a b c in
+    let v = at_most b c a in
+    let w = at_most c a b in
+    by_products a c ∙ grind (arith, nat_tests)
+
+-- a full block has nothing to gain
+pub cost_benefit_full_last : FullLast cost_benefit
+cost_benefit_full_last a b same room full =
+    let ours : 0 < gained a b = some (top a) b.live (mul-pos a.age_some (omega arith)) (omega arith) in
+    let nothing : b.pages - b.live ≡ 0 = omega arith in
+    let theirs : gained b a ≡ 0 = ap (λ n. b.age * n * (2 * a.live)) nothing ∙ ap (λ n. n * (2 * a.live)) (mul-zero b.age) ∙ zero-mul (2 * a.live) in
+    by_products a b ∙ grind (arith, nat_tests)

@@ -1,11 +1,10 @@
-// The orders of block records.
-ghost use Rattle.std.specs.Prelude.{◌≡◌, ℕ, ◌*◌, Bool, not};
-ghost use Rattle.std.proofs.Common.{sym, ap, ◌∙◌, rules, arith};
+// The orders of block records. Each is one comparison of tuples, with a definition of its own: one impl for all orders
+// by a rank would take a rank and its laws from each, and say no less; and cost-benefit has no rank of one record.
+ghost use Rattle.std.specs.Prelude.{◌≡◌};
+ghost use Rattle.std.proofs.Common.{rules};
 ghost use Rattle.orders.specs.Ranks.{least_erased, fewest_live, cost_benefit};
 ghost use Rattle.orders.specs.Products.{gained};
-ghost use Rattle.orders.specs.Cross.{larger_first_total, cross_le, larger_first_trans};
-ghost use Rattle.orders.specs.Figures.{by_products, top, real};
-ghost use Rattle.std.proofs.lemmas.Bool.Decides.{nat_tests};
+ghost use Rattle.orders.specs.Figures.{cost_benefit_total, cost_benefit_transitive};
 
 use crate::block::BlockRecord;
 use crate::order::Order;
@@ -22,7 +21,7 @@ impl Order<BlockRecord> for LeastErased {
     ghost transitive = { Prim.search rules };
 
     fn goes_before(a: &BlockRecord, b: &BlockRecord) -> bool {
-        a.erases < b.erases || (a.erases == b.erases && a.number < b.number)
+        (a.erases, a.number) < (b.erases, b.number)
     }
 }
 
@@ -38,8 +37,7 @@ impl Order<BlockRecord> for FewestLive {
     ghost transitive = { Prim.search rules };
 
     fn goes_before(a: &BlockRecord, b: &BlockRecord) -> bool {
-        a.live < b.live
-            || (a.live == b.live && <LeastErased as Order<BlockRecord>>::goes_before(a, b))
+        (a.live, a.erases, a.number) < (b.live, b.erases, b.number)
     }
 }
 
@@ -51,23 +49,14 @@ pub struct CostBenefit;
 impl Order<BlockRecord> for CostBenefit {
     ghost before = { cost_benefit };
 
-    ghost total = { λ a b apart.
-        let tie : least_erased b a ≡ not (least_erased a b) = Prim.grind (arith, nat_tests) in
-        by_products b a ∙ larger_first_total (gained b a) (gained a b) (least_erased a b) (least_erased b a) tie ∙ ap not (sym (by_products a b)) };
+    ghost total = { cost_benefit_total };
 
-    ghost transitive = { λ a b c ab bc ac p q.
-        by_products a c
-        ∙ larger_first_trans (gained b a) (gained a b) (gained c b) (gained b c) (gained c a) (gained a c) (least_erased a b) (least_erased b c) (least_erased a c)
-        (λ u v. cross_le (top a) (2 * a.live) (top b) (2 * b.live) (top c) (2 * c.live) (real b) u v)
-        (λ u v. cross_le (top b) (2 * b.live) (top c) (2 * c.live) (top a) (2 * a.live) (real c) u v)
-        (λ u v. cross_le (top c) (2 * c.live) (top a) (2 * a.live) (top b) (2 * b.live) (real a) u v)
-        (λ u v. Prim.grind (arith, nat_tests))
-        (sym (by_products a b) ∙ p) (sym (by_products b c) ∙ q) };
+    ghost transitive = { cost_benefit_transitive };
 
+    #[tactic(auto, using(crate::specs::Figures::by_products))]
     fn goes_before(a: &BlockRecord, b: &BlockRecord) -> bool {
-        let ours = gain(a, b);
-        let theirs = gain(b, a);
-        theirs < ours || (theirs == ours && <LeastErased as Order<BlockRecord>>::goes_before(a, b))
+        // the larger product first
+        (gain(b, a), a.erases, a.number) < (gain(a, b), b.erases, b.number)
     }
 }
 
@@ -76,5 +65,5 @@ impl Order<BlockRecord> for CostBenefit {
 fn gain(a: &BlockRecord, b: &BlockRecord) -> u64
     ensures { result ≡ gained a.now b.now }
 {
-    a.age as u64 * (a.pages - a.live) as u64 * (2 * b.live as u64)
+    u64::from(a.age) * u64::from(a.pages - a.live) * (2 * u64::from(b.live))
 }

@@ -18,6 +18,6 @@ impl Order<PageRecord> for BusiestPage {
     ghost transitive = { Prim.search rules };
 
     fn goes_before(a: &PageRecord, b: &PageRecord) -> bool {
-        b.writes < a.writes || (a.writes == b.writes && a.number < b.number)
+        (b.writes, a.number) < (a.writes, b.number)
     }
 }

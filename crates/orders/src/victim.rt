@@ -1,10 +1,8 @@
 // The orders that choose a victim to clean.
-ghost use Rattle.std.specs.Prelude.{◌≡◌, ◌-◌, ◌*◌, ◌<◌, Bool};
-ghost use Rattle.std.proofs.Common.{ap, ◌∙◌, rules, mul-pos, mul-zero, zero-mul, arith};
+ghost use Rattle.std.specs.Prelude.{◌≡◌};
+ghost use Rattle.std.proofs.Common.{rules};
 ghost use Rattle.orders.specs.Victims.{FullLast};
-ghost use Rattle.orders.specs.Products.{gained};
-ghost use Rattle.orders.specs.Figures.{by_products};
-ghost use Rattle.std.proofs.lemmas.Bool.{lt-ltb, or_left};
+ghost use Rattle.orders.specs.Figures.{cost_benefit_full_last};
 
 use crate::block::BlockRecord;
 use crate::block_orders::{CostBenefit, FewestLive};
@@ -29,13 +27,5 @@ impl VictimOrder for FewestLive {
 }
 
 impl VictimOrder for CostBenefit {
-    // a full block has nothing to gain
-    ghost full_last = { λ a b same some full.
-        let here : 0 < a.pages - a.live = omega arith in
-        let g : 0 < a.age * (a.pages - a.live) = mul-pos a.age_some here in
-        let v : 0 < 2 * b.live = omega arith in
-        let ours : 0 < gained a b = mul-pos g v in
-        let none : b.pages - b.live ≡ 0 = omega arith in
-        let theirs : gained b a ≡ 0 = ap (λ n. b.age * n * (2 * a.live)) none ∙ ap (λ n. n * (2 * a.live)) (mul-zero b.age) ∙ zero-mul (2 * a.live) in
-        by_products a b ∙ or_left _ _ (lt-ltb (gained b a) (gained a b) (omega arith)) };
+    ghost full_last = { cost_benefit_full_last };
 }
