@@ -7,3 +7,4 @@ pub mod refusal;
 mod rows;
 mod sift;
 mod steps;
+mod tree;

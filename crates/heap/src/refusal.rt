@@ -6,9 +6,9 @@ ghost use Rattle.heap.specs.Refusals.{number_of};
 #[derive(Clone, Copy, PartialEq, Eq, Debug)]
 pub enum HeapRefusal {
     /// An added number is in the heap already, or is not below the number of records that the memory holds.
-    NoPlace,
+    NoPlace = 16,
     /// A number is not in the heap, or the heap is empty where its first is asked for.
-    NotThere,
+    NotThere = 17,
 }
 
 impl HeapRefusal {
@@ -16,9 +16,6 @@ impl HeapRefusal {
     pub fn number(self) -> u8
         ensures { result ≡ number_of self }
     {
-        match self {
-            HeapRefusal::NoPlace => 16,
-            HeapRefusal::NotThere => 17,
-        }
+        self as u8
     }
 }
