@@ -1,30 +1,12 @@
-ghost use Rattle.std.specs.Prelude.{◌≤◌};
-
 use crate::pools::Pools;
+use crate::records::{block, page};
 use heap::indexed::Heap;
 use heap::node::Node;
 use heap::refusal::HeapRefusal;
-use orders::block::BlockRecord;
 use orders::block_orders::{CostBenefit, FewestLive, LeastErased};
 use orders::page::PageRecord;
 use orders::page_orders::BusiestPage;
 use orders::record::Numbered;
-
-fn page(number: u16, writes: u64) -> PageRecord {
-    PageRecord { number, writes }
-}
-
-fn block(number: u16, erases: u32, live: u8) -> BlockRecord
-    requires { live ≤ 4 }
-{
-    BlockRecord {
-        number,
-        erases,
-        live,
-        pages: 4,
-        age: 1,
-    }
-}
 
 #[test]
 fn refusals_have_their_numbers(rt: HostRuntime) {
@@ -89,7 +71,7 @@ fn removes_in_the_middle(rt: HostRuntime) {
     let mut nodes = [Node::new(page(0, 0)); 8];
     let mut heap = Heap::new(&mut nodes, BusiestPage);
     for n in 0..8u16 {
-        assert_eq!(rt; heap.add(page(n, 10 + n as u64)), Ok(()));
+        assert_eq!(rt; heap.add(page(n, 10 + u64::from(n))), Ok(()));
     }
     assert_eq!(rt; heap.remove(6), Ok(page(6, 16)));
     assert_eq!(rt; heap.remove(6), Err(HeapRefusal::NotThere));

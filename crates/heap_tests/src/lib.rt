@@ -9,3 +9,5 @@ mod order_tests;
 mod pools;
 #[cfg(test)]
 mod ranking_tests;
+#[cfg(test)]
+mod records;

@@ -1,6 +1,8 @@
 use orders::block::BlockRecord;
+use orders::block_orders::{CostBenefit, FewestLive, LeastErased};
 use orders::order::Order;
 use orders::page::PageRecord;
+use orders::page_orders::BusiestPage;
 use orders::victim::VictimOrder;
 
 // Block 9 with 5 erases against block 1 with none, of 4 pages.
@@ -22,16 +24,8 @@ const EARLY: BlockRecord = BlockRecord {
 
 #[test]
 fn larger_figure_first(rt: HostRuntime) {
-    assert!(rt;
-        <orders::block_orders::CostBenefit as orders::order::Order<BlockRecord>>::goes_before(
-            &LATE, &EARLY
-        )
-    );
-    assert!(rt;
-        !<orders::block_orders::CostBenefit as orders::order::Order<BlockRecord>>::goes_before(
-            &EARLY, &LATE
-        )
-    );
+    assert!(rt; CostBenefit::goes_before(&LATE, &EARLY));
+    assert!(rt; !CostBenefit::goes_before(&EARLY, &LATE));
 }
 
 #[test]
@@ -57,21 +51,9 @@ fn no_live_pages_above_all(rt: HostRuntime) {
         pages: 4,
         age: 100,
     };
-    assert!(rt;
-        <orders::block_orders::CostBenefit as orders::order::Order<BlockRecord>>::goes_before(
-            &none, &some
-        )
-    );
-    assert!(rt;
-        !<orders::block_orders::CostBenefit as orders::order::Order<BlockRecord>>::goes_before(
-            &some, &none
-        )
-    );
-    assert!(rt;
-        <orders::block_orders::CostBenefit as orders::order::Order<BlockRecord>>::goes_before(
-            &none, &other
-        )
-    );
+    assert!(rt; CostBenefit::goes_before(&none, &some));
+    assert!(rt; !CostBenefit::goes_before(&some, &none));
+    assert!(rt; CostBenefit::goes_before(&none, &other));
 }
 
 #[test]
@@ -97,21 +79,9 @@ fn equal_figures_by_erases_then_number(rt: HostRuntime) {
         pages: 4,
         age: 2,
     };
-    assert!(rt;
-        <orders::block_orders::CostBenefit as orders::order::Order<BlockRecord>>::goes_before(
-            &three, &same
-        )
-    );
-    assert!(rt;
-        <orders::block_orders::CostBenefit as orders::order::Order<BlockRecord>>::goes_before(
-            &lower, &three
-        )
-    );
-    assert!(rt;
-        !<orders::block_orders::CostBenefit as orders::order::Order<BlockRecord>>::goes_before(
-            &three, &lower
-        )
-    );
+    assert!(rt; CostBenefit::goes_before(&three, &same));
+    assert!(rt; CostBenefit::goes_before(&lower, &three));
+    assert!(rt; !CostBenefit::goes_before(&three, &lower));
 }
 
 #[test]
@@ -137,45 +107,17 @@ fn largest_values(rt: HostRuntime) {
         pages: 64,
         age: 4294967295,
     };
-    assert!(rt;
-        <orders::block_orders::CostBenefit as orders::order::Order<BlockRecord>>::goes_before(
-            &old, &young
-        )
-    );
-    assert!(rt;
-        !<orders::block_orders::CostBenefit as orders::order::Order<BlockRecord>>::goes_before(
-            &young, &old
-        )
-    );
-    assert!(rt;
-        <orders::block_orders::CostBenefit as orders::order::Order<BlockRecord>>::goes_before(
-            &old, &full
-        )
-    );
+    assert!(rt; CostBenefit::goes_before(&old, &young));
+    assert!(rt; !CostBenefit::goes_before(&young, &old));
+    assert!(rt; CostBenefit::goes_before(&old, &full));
 }
 
 #[test]
 fn fewest_live_and_least_erased(rt: HostRuntime) {
-    assert!(rt;
-        <orders::block_orders::FewestLive as orders::order::Order<BlockRecord>>::goes_before(
-            &EARLY, &LATE
-        )
-    );
-    assert!(rt;
-        !<orders::block_orders::FewestLive as orders::order::Order<BlockRecord>>::goes_before(
-            &LATE, &EARLY
-        )
-    );
-    assert!(rt;
-        <orders::block_orders::LeastErased as orders::order::Order<BlockRecord>>::goes_before(
-            &EARLY, &LATE
-        )
-    );
-    assert!(rt;
-        !<orders::block_orders::LeastErased as orders::order::Order<BlockRecord>>::goes_before(
-            &LATE, &EARLY
-        )
-    );
+    assert!(rt; FewestLive::goes_before(&EARLY, &LATE));
+    assert!(rt; !FewestLive::goes_before(&LATE, &EARLY));
+    assert!(rt; LeastErased::goes_before(&EARLY, &LATE));
+    assert!(rt; !LeastErased::goes_before(&LATE, &EARLY));
 }
 
 #[test]
@@ -192,21 +134,9 @@ fn busiest_page_first(rt: HostRuntime) {
         number: 6,
         writes: 13,
     };
-    assert!(rt;
-        <orders::page_orders::BusiestPage as orders::order::Order<PageRecord>>::goes_before(
-            &busy, &calm
-        )
-    );
-    assert!(rt;
-        <orders::page_orders::BusiestPage as orders::order::Order<PageRecord>>::goes_before(
-            &tied, &busy
-        )
-    );
-    assert!(rt;
-        !<orders::page_orders::BusiestPage as orders::order::Order<PageRecord>>::goes_before(
-            &busy, &tied
-        )
-    );
+    assert!(rt; BusiestPage::goes_before(&busy, &calm));
+    assert!(rt; BusiestPage::goes_before(&tied, &busy));
+    assert!(rt; !BusiestPage::goes_before(&busy, &tied));
 }
 
 #[test]
@@ -218,19 +148,7 @@ fn full_blocks_are_the_last_victims(rt: HostRuntime) {
         pages: 4,
         age: 1000,
     };
-    assert!(rt;
-        <orders::block_orders::FewestLive as orders::victim::VictimOrder>::better_victim(
-            &LATE, &full
-        )
-    );
-    assert!(rt;
-        <orders::block_orders::CostBenefit as orders::victim::VictimOrder>::better_victim(
-            &LATE, &full
-        )
-    );
-    assert!(rt;
-        !<orders::block_orders::CostBenefit as orders::victim::VictimOrder>::better_victim(
-            &full, &LATE
-        )
-    );
+    assert!(rt; FewestLive::better_victim(&LATE, &full));
+    assert!(rt; CostBenefit::better_victim(&LATE, &full));
+    assert!(rt; !CostBenefit::better_victim(&full, &LATE));
 }

@@ -1,14 +1,10 @@
+use crate::records::page;
 use heap::indexed::Heap;
 use heap::node::Node;
 use heap::refusal::HeapRefusal;
-use orders::page::PageRecord;
 use orders::page_orders::BusiestPage;
 use ranking::{drain_ranked, leaders};
 use std::test::Fail;
-
-fn page(number: u16, writes: u64) -> PageRecord {
-    PageRecord { number, writes }
-}
 
 #[test]
 fn drains_in_order(rt: HostRuntime) -> Result<(), Fail> {
@@ -18,10 +14,10 @@ fn drains_in_order(rt: HostRuntime) -> Result<(), Fail> {
     assert_eq!(rt; heap.add(page(3, 13)), Ok(()));
     assert_eq!(rt; heap.add(page(2, 1)), Ok(()));
     let ranked = drain_ranked(&mut heap, rt.alloc())?;
-    assert!(rt; ranked.len() == 3);
-    assert_eq!(rt; ranked[0], page(3, 13));
-    assert_eq!(rt; ranked[1], page(0, 1));
-    assert_eq!(rt; ranked[2], page(2, 1));
+    assert_eq!(rt;
+        ranked.as_slice(),
+        [page(3, 13), page(0, 1), page(2, 1)].as_slice()
+    );
     assert_eq!(rt; heap.len(), 0);
     Ok(())
 }
@@ -31,7 +27,7 @@ fn leaders_stop_at_the_most(rt: HostRuntime) -> Result<(), Fail> {
     let mut nodes = [Node::new(page(0, 0)); 16];
     let mut heap = Heap::new(&mut nodes, BusiestPage);
     for n in 0..12u16 {
-        assert_eq!(rt; heap.add(page(n, n as u64 / 2)), Ok(()));
+        assert_eq!(rt; heap.add(page(n, u64::from(n) / 2)), Ok(()));
     }
     let busiest = leaders(&mut heap, 8, rt.alloc())?;
     assert!(rt; busiest.len() == 8);

@@ -1,22 +1,23 @@
 use Rattle.std.proofs.Common.{◌≡◌, ◌<◌, ◌≤◌, true, not, Some, sym, ap, ◌∙◌, ⊎_elim, arith}
 use Rattle.std.proofs.lemmas.Result.{MatchResult-weaker}
 use Rattle.std.proofs.lemmas.Bool.{cases_eq, cases_lt, both_ways}
+use Rattle.heap.specs.Heaps.{held}
 use Rattle.heap.proofs.Maps.{held_number}
 use Rattle.heap_tests.proofs.pools.Pools.victim.Goals as goal
 
 pub returns : goal.returns
-returns g c = λ ok.
+returns g c =
     let h = c.args.self.now.closed in
     let before = g.V.Order.before in
-    MatchResult-weaker c.first.result (c.first.ensures ok)
+    MatchResult-weaker c.first.result c.first.ensures
     (λ x f m y e same room. ⊎_elim
     (λ (here : x.live < x.pages). here)
     (λ (full : x.pages ≤ x.live).
     let few = x.live_few in
-    let name : y.number ≡ m = held_number (λ b. b.number) before h.nodes.now h.len ok m y e in
+    let name : y.number ≡ m = held_number h m y e in
     absurd (⊎_elim
     (λ (q : m ≡ x.number).
-    let both : Some y ≡ Some x = sym e ∙ ap (Rattle.heap.specs.Heaps.held h) q ∙ f.there in
+    let both : Some y ≡ Some x = sym e ∙ ap (held h) q ∙ f.there in
     let is : y ≡ x = cc in
     let live : y.live ≡ x.live = ap (λ b. b.live) is in
     omega arith)
