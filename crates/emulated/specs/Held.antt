@@ -13,6 +13,12 @@ use Rattle.emulated.specs.declared.Line.{Line}
 abbrev pub served : Geometry → ℕ → ℕ → Geometry
 served g tags bytes = cond (within g && (nat_le (g.blocks * g.pages) tags && nat_le ((g.blocks * g.pages) * g.size) bytes)) g no_geometry
 
+-- There is a line for each block, and room in the memory for each page.
+pub record Room (g : Geometry) (tags bytes : ℕ) : Type 0 where
+  pub few : g.blocks ≤ 256
+  pub tagroom : g.blocks * g.pages ≤ tags
+  pub room : (g.blocks * g.pages) * g.size ≤ bytes
+
 -- What a line of the tables may have.
 abbrev pub LineFits : Geometry → Line → Type 0
 LineFits g l = (l.erases ≤ g.rated) × (l.written ≤ g.pages)

@@ -8,4 +8,4 @@ abbrev pub emulated : Emulated → Flash
 emulated s = held s.geometry s.lines s.tags.now s.bytes.now
 
 pub emulated_laws : Lawful emulated (ByMeaning emulated)
-emulated_laws = lawful_by_meaning emulated (λ s. held_formed s.geometry s.lines s.tags.now s.bytes.now s.few s.tag_room s.byte_room s.lines_fit s.tags_fit)
+emulated_laws = lawful_by_meaning emulated (λ s. held_formed s.geometry s.lines s.tags.now s.bytes.now s.room s.lines_fit s.tags_fit)

@@ -8,7 +8,7 @@ ghost use Rattle.std.proofs.Math.Seq.{paste};
 ghost use Rattle.flash.specs.declared.Refusal.TheVariants.{OutOfTurn};
 ghost use Rattle.flash.specs.Meaning.{ByMeaning, blank, block as held_block, page as held_page};
 ghost use Rattle.flash.specs.Calls.{below, in_block, in_page};
-ghost use Rattle.emulated.specs.Held.{served, place, page_in, line_of, LineFits};
+ghost use Rattle.emulated.specs.Held.{served, Room, place, page_in, line_of, LineFits};
 
 use flash::{Chip, Geometry, MAX_BLOCKS, Refusal};
 
@@ -35,9 +35,7 @@ pub struct Emulated<'a> {
     lines: [Line; LINES],
     tags: &'a mut [u16],
     bytes: &'a mut [u8],
-    ghost few: { geometry.blocks ≤ 256 },
-    ghost tag_room: { geometry.blocks * geometry.pages ≤ length tags.now },
-    ghost byte_room: { (geometry.blocks * geometry.pages) * geometry.size ≤ length bytes.now },
+    ghost room: { Room geometry (length tags.now) (length bytes.now) },
     ghost lines_fit: { All (LineFits geometry) lines },
     ghost tags_fit: { All (λ tag. tag < 65536) tags.now },
 }
@@ -105,10 +103,8 @@ impl<'a> Emulated<'a> {
 /// The geometry handed in, or all 0 where it is outside the limits or the memory is too short.
 fn served(geometry: Geometry, tags: &[u16], bytes: &[u8]) -> Geometry
     ensures is { result ≡ served geometry (length tags.now) (length bytes.now) }
-    ensures few { result.blocks ≤ 256 }
+    ensures room { Room result (length tags.now) (length bytes.now) }
     ensures tags_fit { All (λ tag. tag < 65536) tags.now }
-    ensures tag_room { result.blocks * result.pages ≤ length tags.now }
-    ensures byte_room { (result.blocks * result.pages) * result.size ≤ length bytes.now }
 {
     if !geometry.within_limits() {
         return Geometry::none();

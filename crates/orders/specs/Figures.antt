@@ -1,5 +1,5 @@
 -- Two figures compare as the products of the code do, and so keep the laws of an order. Assumes nothing.
-use Rattle.std.specs.Prelude.{◌≡◌, ℕ, ◌+◌, ◌-◌, ◌*◌, ◌<◌, ◌≤◌, Bool, true, false, cond, ◌==◌, ◌≢◌, nat_lt, refl}
+use Rattle.std.specs.Prelude.{◌≡◌, ℕ, ◌+◌, ◌-◌, ◌*◌, ◌<◌, ◌≤◌, Bool, true, false, cond, not, ◌==◌, ◌≢◌, nat_lt, refl}
 use Rattle.std.proofs.Common.{sym, ap, ◌∙◌, mul-pos, mul-zero, zero-mul, arith}
 use Rattle.std.proofs.lemmas.Bool.{eqb-true, eqb-false}
 use Rattle.std.proofs.lemmas.Bool.Decides.{nat_tests}
@@ -7,7 +7,7 @@ use Rattle.orders.specs.declared.block.BlockRecord.{BlockRecord}
 use Rattle.orders.specs.Laws.{Total, Transitive}
 use Rattle.orders.specs.Products.{gained}
 use Rattle.orders.specs.Ranks.{endless, over, larger, equal, then_by, cost_benefit, least_erased}
-use Rattle.orders.specs.Cross.{cross_le}
+use Rattle.orders.specs.Cross.{cross_le, larger_first, larger_first_total, larger_first_trans}
 use Rattle.orders.specs.Victims.{FullLast}
 
 abbrev pub top : BlockRecord → ℕ
@@ -46,7 +46,7 @@ compared a b false true p q =
 compared a b false false p q = (refl, refl)
 
 -- the larger product first, and then as least_erased
-pub by_products : (a b : BlockRecord) → cost_benefit a b ≡ then_by (nat_lt (gained b a) (gained a b)) (gained b a == gained a b) (least_erased a b)
+pub by_products : (a b : BlockRecord) → cost_benefit a b ≡ larger_first (gained b a) (gained a b) (least_erased a b)
 by_products a b =
     let both = compared a b (a.live == 0) (b.live == 0) refl refl in
     λ i. then_by (both.0 i) (both.1 i) (least_erased a b)
@@ -57,18 +57,15 @@ at_most a b c = cross_le (top a) (2 * a.live) (top b) (2 * b.live) (top c) (2 * 
 
 pub cost_benefit_total : Total (λ b. b.number) cost_benefit
 cost_benefit_total a b apart =
-    let there = by_products a b in
-    let back = by_products b a in
-    grind (arith, nat_tests)
+    let tie : least_erased b a ≡ not (least_erased a b) = grind (arith, nat_tests) in
+    by_products b a ∙ larger_first_total (gained b a) (gained a b) (least_erased a b) (least_erased b a) tie ∙ ap not (sym (by_products a b))
 
 pub cost_benefit_transitive : Transitive (λ b. b.number) cost_benefit
 cost_benefit_transitive a b c ab bc ac p q =
-    let first = sym (by_products a b) ∙ p in
-    let second = sym (by_products b c) ∙ q in
-    let u = at_most a b c in
-    let v = at_most b c a in
-    let w = at_most c a b in
-    by_products a c ∙ grind (arith, nat_tests)
+    by_products a c
+    ∙ larger_first_trans (gained b a) (gained a b) (gained c b) (gained b c) (gained c a) (gained a c) (least_erased a b) (least_erased b c) (least_erased a c)
+    (at_most a b c) (at_most b c a) (at_most c a b) (λ u v. grind (arith, nat_tests))
+    (sym (by_products a b) ∙ p) (sym (by_products b c) ∙ q)
 
 -- a full block has nothing to gain
 pub cost_benefit_full_last : FullLast cost_benefit

@@ -10,4 +10,4 @@ invariant_of-result-clause-lines_fit c = All-replicate (LineFits c.served.result
 
 pub returns : goal.returns
 returns c =
-    held_blank c.served.result c.args.tags.now c.args.bytes.now c.served.ensures.few ∙ ap blank c.served.ensures.is
+    held_blank c.served.result c.args.tags.now c.args.bytes.now c.served.ensures.room.few ∙ ap blank c.served.ensures.is
