@@ -48,14 +48,15 @@ fn filled<F: FnOnce(&mut [u8]) -> Result<(), Refusal>>(len: usize, call: F) -> O
     requires { F.IsAlwaysCallable call }
 {
     let mut memory = [UNTOUCHED; 8];
-    let buf = &mut memory[..len.min(8)];
-    let answer = call(buf);
+    let len = len.min(8);
+    let answer = call(&mut memory[..len]);
+    let (buf, past) = memory.split_at(len);
     let first = buf.first().copied().unwrap_or(UNTOUCHED);
     let right = match answer {
         Ok(()) => rising(first).starts_with(buf),
         Err(_) => buf.iter().all(|byte| *byte == UNTOUCHED),
     };
-    if right {
+    if right && past.iter().all(|byte| *byte == UNTOUCHED) {
         answer.map(|()| Told::Holds(first))
     } else {
         Ok(Told::Spoilt)

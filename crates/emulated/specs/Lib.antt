@@ -1,3 +1,4 @@
+pub mod AnyTables
 pub mod Held
 pub mod Laws
 pub mod Meaning

@@ -4,7 +4,7 @@
 --   live_pages  the live pages of a block, in rising page order; v is their number
 --   record_of   a block's record, as orders take it: number, erase count, v, P and age
 --   first       the first of some records in an order
-use Rattle.std.specs.Prelude.{ℕ, suc, ◌-◌, min, Bool, true, false, cond, ◌&&◌, List, [], ◌∷◌, map, length, Some, None, filter, Option, ◌==◌, slice_get, slice_index, slice_index_or}
+use Rattle.std.specs.Prelude.{ℕ, suc, ◌-◌, ◌≤◌, min, Bool, true, false, cond, ◌&&◌, List, [], ◌∷◌, map, length, Some, None, filter, Option, ◌==◌, slice_get, slice_index, slice_index_or}
 use Rattle.std.proofs.Common.{arith}
 use Rattle.std.specs.List.{range_with_len}
 use Rattle.orders.specs.declared.block.BlockRecord.{BlockRecord}
@@ -52,6 +52,9 @@ live_from m b i (q ∷ qs) = let rest = live_from m b (suc i) qs in cond (names 
 abbrev pub live_pages : State → ℕ → List Page
 live_pages s b = live_from s.places b 0 (block s.chip b).pages
 
+pub at_most_holds : (high x : ℕ) → min high x ≤ high
+at_most_holds high x = omega arith
+
 -- A record always has P from 1 to 64 and v at most P. On a chip that is served P is from 1 to 64, and a block has
 -- at most P live pages: there nothing is cut off, and these are P and v.
 abbrev pub record_of : State → ℕ → BlockRecord
@@ -63,9 +66,9 @@ record_of s b =
       live = min p (length (live_pages s b));
       pages = p;
       age = suc (s.meter.rounds - slice_index s.marks b);
-      live_few = omega arith;
+      live_few = at_most_holds p (length (live_pages s b));
       pages_some = omega arith;
-      pages_few = omega arith;
+      pages_few = let h = at_most_holds 63 (s.chip.p - 1) in omega arith;
       age_some = omega arith;
     }
 

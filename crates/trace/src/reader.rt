@@ -1,5 +1,5 @@
 //! The reader of a whole input, which arrives byte by byte.
-ghost use Rattle.std.specs.Prelude.{◌≡◌, ℕ, List, Ok, Err};
+ghost use Rattle.std.specs.Prelude.{◌≡◌, ℕ, ◌≤◌, List, length, Ok, Err};
 ghost use Rattle.trace.specs.Reading.{faulty, in_place, placed, read_all};
 ghost use Rattle.trace.specs.Lines.{line_frame};
 ghost use Rattle.trace.specs.Steps.{State, beginning, step, line_end, stopped, ending, after_all, heard, concluded};
@@ -28,9 +28,14 @@ pub struct Reader {
 
 // Clauses see where the reader stands.
 impl Model for Reader {
+    ghost use Rattle.std.specs.Prelude.{◌≤◌, length};
+    ghost use Rattle.trace.specs.Steps.{State};
+
     ghost Value = { State };
 
     ghost view = { λ r. record { line = r.line; started = r.started; rest = r.rest; fault = r.fault } };
+
+    ghost invariant = { λ r. length r.rest ≤ 34 };
 }
 
 /// Whether a frame may stand there: the one setup comes before all others.
@@ -73,6 +78,7 @@ impl Reader {
     pub fn push(&mut self, byte: u8) -> Result<Option<Frame>, Fault>
         ensures after { self.new ≡ (step self.old byte).after }
         ensures answer { result ≡ (step self.old byte).answer }
+        ensures one_line { length self.new.rest ≤ 34 }
     {
         if let Some(fault) = self.fault {
             return Err(fault);
@@ -111,6 +117,7 @@ impl Reader {
     fn end_line(&mut self) -> Result<Option<Frame>, Fault>
         ensures after { self.new ≡ (line_end self.old).after }
         ensures answer { result ≡ (line_end self.old).answer }
+        ensures one_line { length self.new.rest ≤ 34 }
     {
         match read_placed(self.rest.as_slice(), self.started) {
             Ok(frame) => {
