@@ -1,6 +1,7 @@
 //! A buffer that keeps a bounded number of bytes.
 ghost use Rattle.std.specs.Prelude.{◌≡◌, ℕ, ◌≤◌, List, [], ◌∷◌, ◌++◌, length, take, if◌then◌else◌, nat_lt, Ok, Err};
 
+use arrayvec::ArrayVec;
 use std::marker::Model;
 
 /// A buffer has no room for one byte more.
@@ -10,17 +11,16 @@ pub struct Full;
 /// Up to `N` bytes, kept in place: nothing is allocated.
 #[derive(Drop)]
 pub struct Bytes<const N: usize> {
-    items: [u8; N],
-    len: usize,
+    bytes: ArrayVec<u8, N>,
 }
 
 // Clauses see the bytes, in the order in which they came.
 impl<const N: usize> Model for Bytes<N> {
     ghost Value = { List ℕ };
 
-    ghost view = { λ b. take b.len b.items };
+    ghost view = { λ b. b.bytes.items };
 
-    ghost invariant = { λ b. b.len ≤ N };
+    ghost invariant = { λ b. length b.bytes.items ≤ N };
 }
 
 impl<const N: usize> Bytes<N> {
@@ -29,8 +29,7 @@ impl<const N: usize> Bytes<N> {
         ensures { result ≡ [] }
     {
         Bytes {
-            items: [0; N],
-            len: 0,
+            bytes: ArrayVec::new(),
         }
     }
 
@@ -40,30 +39,22 @@ impl<const N: usize> Bytes<N> {
         ensures kept { self.new ≡ (if nat_lt (length self.old) N then self.old ++ byte ∷ [] else self.old) }
         ensures within { length self.new ≤ N }
     {
-        if self.len == N {
-            return Err(Full);
-        }
-        self.items[self.len] = byte;
-        self.len += 1;
-        Ok(())
+        self.bytes.try_push(byte).map_err(|_| Full)
     }
 
     /// Keeps as much of `more`, from its front, as there is room for.
     pub fn append(&mut self, more: &[u8])
         ensures { self.new ≡ take N (self.old ++ more.now) }
     {
-        let count = more.len().min(N - self.len);
-        let end = self.len + count;
-        let all = &mut self.items[..];
-        all[self.len..end].copy_from_slice(&more[..count]);
-        self.len = end;
+        let count = more.len().min(self.bytes.remaining_capacity());
+        self.bytes.try_extend_from_slice(&more[..count]).unwrap();
     }
 
     /// Forgets what it keeps.
     pub fn clear(&mut self)
         ensures { self.new ≡ [] }
     {
-        self.len = 0;
+        self.bytes.clear();
     }
 
     /// What it keeps, in the order in which it came.
@@ -71,6 +62,6 @@ impl<const N: usize> Bytes<N> {
         ensures bytes { result.now ≡ self.now }
         ensures within { length self.now ≤ N }
     {
-        &self.items[..self.len]
+        self.bytes.as_slice()
     }
 }

@@ -4,7 +4,7 @@ use flash::{Chip, Refusal};
 use std::process::Abort;
 
 /// A call with its arguments: the block first, then the page. `len` bytes are handed in, or a buffer of that length, at most eight.
-/// A value and not a closure, as a table of closures would need a box for each row.
+/// A value and not a closure: a row of closures is longer than the call that it names, and its type names the chip.
 #[derive(Clone, Copy)]
 pub enum Call {
     Count(u16),
@@ -28,7 +28,7 @@ pub enum Told {
     Is(u32),
     /// The buffer holds bytes from this one on, each next one larger by 1.
     Holds(u8),
-    /// The buffer holds anything else, or a refused call wrote to it.
+    /// The buffer holds anything else, or a refused call wrote to it. No row asks for it; `Err` is the chip's own refusal.
     Spoilt,
 }
 

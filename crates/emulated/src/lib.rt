@@ -13,7 +13,7 @@ ghost use Rattle.emulated.specs.Held.{served, Room, place, page_in, line_of, Lin
 use flash::{Chip, Geometry, MAX_BLOCKS, Refusal};
 
 /// A line of the tables for each block that a chip may have.
-const LINES: usize = MAX_BLOCKS as usize;
+const LINES: usize = MAX_BLOCKS as usize; // a constant calls no `From`
 
 /// How often a block was erased, and how many of its pages are written.
 #[derive(Clone, Copy)]
@@ -41,7 +41,7 @@ pub struct Emulated<'a> {
 }
 
 impl<'a> Emulated<'a> {
-    // Not above, as the struct's ghost fields would then rest on a definition over the struct.
+    // here and not at the head of the file, whose lines the struct's ghost fields rest on: this definition is over the struct
     ghost use Rattle.emulated.specs.Meaning.{emulated};
 
     /// A blank chip, every count 0. Its N, P, D and E are all 0 where the geometry is outside the limits or the
@@ -80,6 +80,7 @@ impl<'a> Emulated<'a> {
         if page >= self.geometry.pages {
             return Err(Refusal::Outside);
         }
+        // `u32` has no `From` to `usize`
         let place = usize::from(block) * self.geometry.pages as usize + page as usize;
         Ok((line, place))
     }
@@ -109,7 +110,7 @@ fn served(geometry: Geometry, tags: &[u16], bytes: &[u8]) -> Geometry
     if !geometry.within_limits() {
         return Geometry::none();
     }
-    let places = usize::from(geometry.blocks) * geometry.pages as usize;
+    let places = usize::from(geometry.blocks) * geometry.pages as usize; // no `From` for `u32` either
     if places <= tags.len() && places * geometry.size <= bytes.len() {
         geometry
     } else {

@@ -16,9 +16,9 @@ use std::fmt;
 
 pub mod tools;
 
-/// The fewest and the most blocks of a chip that is served.
+/// The fewest blocks of a chip that is served.
 pub const MIN_BLOCKS: u16 = 2;
-
+/// The most blocks of a chip that is served.
 pub const MAX_BLOCKS: u16 = 256;
 /// The most pages of a block that is served; the fewest is 1.
 pub const MAX_PAGES: u32 = 64;
@@ -37,7 +37,7 @@ pub struct Geometry {
 }
 
 impl Geometry {
-    /// The geometry of a chip that is not there: not an `Option`, since N, P, D and E of such a chip are all 0.
+    /// The geometry of a chip that is not there. Not an `Option`: by the rules of a chip, N, P, D and E are then all 0.
     pub fn none() -> Geometry
         ensures { result ≡ no_geometry }
     {
@@ -73,6 +73,7 @@ impl Refusal {
     pub fn number(self) -> u8
         ensures { result ≡ number_of self }
     {
+        // not by one trait for all refusals: each crate's have a definition of their own
         self as u8
     }
 }
@@ -143,8 +144,8 @@ pub trait Chip {
     fn written(&self, block: u16) -> Result<u32, Refusal>
         ensures { result ≡ written_answer (meaning self.now) block };
 
-    // Block and page are two arguments, as a block goes alone in as many calls, and without its page in a copy.
-    /// The tag of a written page.
+    /// The tag of a written page. Block and page are two arguments here and below: a block goes alone in as many calls, and
+    /// in a copy without its page.
     fn tag(&self, block: u16, page: u32) -> Result<u16, Refusal>
         ensures { result ≡ tag_answer (meaning self.now) block page };
 

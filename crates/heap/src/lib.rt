@@ -1,6 +1,7 @@
+//! An indexed binary heap of numbered records, in memory that is lent to it.
+
 #![tactic(auto)]
 
-// An indexed binary heap of numbered records, in memory that is lent to it.
 pub mod indexed;
 pub mod node;
 pub mod refusal;

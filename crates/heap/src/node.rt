@@ -1,4 +1,4 @@
-// The memory of a heap.
+//! The memory of a heap.
 ghost use Rattle.std.specs.Prelude.{◌≡◌};
 
 /// One node of a heap's memory. Node `i` has the record of the number `i`, that number's place in the

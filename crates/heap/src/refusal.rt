@@ -1,4 +1,4 @@
-// Why a heap refuses.
+//! Why a heap refuses.
 ghost use Rattle.std.specs.Prelude.{◌≡◌};
 ghost use Rattle.heap.specs.Refusals.{number_of};
 
@@ -16,6 +16,7 @@ impl HeapRefusal {
     pub fn number(self) -> u8
         ensures { result ≡ number_of self }
     {
+        // not by one trait for all refusals: each crate's have a definition of their own
         self as u8
     }
 }

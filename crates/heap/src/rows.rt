@@ -1,5 +1,5 @@
-// The rows of the nodes: the number at each place, the place of each number, and the records. Each setter takes the nodes alone,
-// since between two of them the tree's invariant need not hold.
+//! The rows of the nodes: the number at each place, the place of each number, and the records. Each setter takes the nodes alone,
+//! since between two of them the tree's invariant need not hold.
 ghost use Rattle.std.specs.Prelude.{◌≡◌, ◌<◌, length, slice_set};
 ghost use Rattle.heap.specs.Rows.{names, places, records};
 

@@ -1,4 +1,4 @@
-// The tree of a heap: a place for each record, in any order.
+//! The tree of a heap: a place for each record, in any order.
 ghost use Rattle.std.specs.Prelude.{◌≡◌, ℕ, ◌<◌, length, slice_index};
 ghost use Rattle.heap.specs.Rows.{names, places, key, held_in, Loose, Exchanged};
 

@@ -3,7 +3,9 @@ use crate::records::{block, page};
 use heap::indexed::Heap;
 use heap::node::Node;
 use heap::refusal::HeapRefusal;
+use orders::block::BlockRecord;
 use orders::block_orders::{CostBenefit, FewestLive, LeastErased};
+use orders::order::Order;
 use orders::page::PageRecord;
 use orders::page_orders::BusiestPage;
 use orders::record::Numbered;
@@ -96,25 +98,26 @@ fn memory_in_use_before_does_not_matter(rt: HostRuntime) {
     assert_eq!(rt; heap.pop(), Ok((page(1, 2), 0)));
 }
 
+/// What comes of adding two blocks to a heap in an order, and the block that is first then.
+fn first_of<O: Order<BlockRecord>>(
+    order: O,
+    one: BlockRecord,
+    other: BlockRecord,
+) -> Result<BlockRecord, HeapRefusal> {
+    let mut nodes = [Node::new(one); 2];
+    let mut heap = Heap::new(&mut nodes, order);
+    heap.add(one)?;
+    heap.add(other)?;
+    heap.first()
+}
+
 #[test]
 fn blocks_by_each_order(rt: HostRuntime) {
     let young = block(0, 1, 3);
     let worn = block(1, 9, 1);
-    let mut nodes = [Node::new(young); 2];
-    let mut least = Heap::new(&mut nodes, LeastErased);
-    assert_eq!(rt; least.add(young), Ok(()));
-    assert_eq!(rt; least.add(worn), Ok(()));
-    assert_eq!(rt; least.first(), Ok(young));
-    drop(least);
-    let mut fewest = Heap::new(&mut nodes, FewestLive);
-    assert_eq!(rt; fewest.add(young), Ok(()));
-    assert_eq!(rt; fewest.add(worn), Ok(()));
-    assert_eq!(rt; fewest.first(), Ok(worn));
-    drop(fewest);
-    let mut gain = Heap::new(&mut nodes, CostBenefit);
-    assert_eq!(rt; gain.add(young), Ok(()));
-    assert_eq!(rt; gain.add(worn), Ok(()));
-    assert_eq!(rt; gain.first(), Ok(worn));
+    assert_eq!(rt; first_of(LeastErased, young, worn), Ok(young));
+    assert_eq!(rt; first_of(FewestLive, young, worn), Ok(worn));
+    assert_eq!(rt; first_of(CostBenefit, young, worn), Ok(worn));
 }
 
 #[test]

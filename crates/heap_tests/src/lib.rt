@@ -1,6 +1,7 @@
+//! Tests of the orders, the heap and the ranking, and of two heaps in one struct.
+
 #![tactic(auto)]
 
-// Tests of the orders, the heap and the ranking, and of two heaps in one struct.
 #[cfg(test)]
 mod heap_tests;
 #[cfg(test)]

@@ -1,4 +1,4 @@
-// A free pool and the closed blocks, held by value in one struct over lent nodes.
+//! A free pool and the closed blocks, held by value in one struct over lent nodes.
 ghost use Rattle.std.specs.Prelude.{◌≡◌, true, is_some, IfOk, MatchResult};
 ghost use Rattle.heap.specs.Heaps.{held, size, Empty, Added};
 ghost use Rattle.heap_tests.specs.Victims.{Frees};

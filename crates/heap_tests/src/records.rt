@@ -1,4 +1,4 @@
-// The records of the tests.
+//! The records of the tests.
 ghost use Rattle.std.specs.Prelude.{◌≤◌};
 
 use orders::block::BlockRecord;

@@ -17,15 +17,16 @@ impl TextFault {
     pub fn number(self) -> u8
         ensures { result ≡ text_number self }
     {
+        // not by one trait for all refusals: each crate's have a definition of their own
         self as u8
     }
 }
 
-// By its ranges: `char::to_digit` reads the same digits, but its `u32` would have to be narrowed again.
 /// The value of a hexadecimal digit of either case.
 pub fn digit(c: u8) -> Option<u8>
     ensures { result ≡ digit_value c }
 {
+    // by its ranges: `char::to_digit` reads the same digits, but its `u32` would have to be narrowed again
     match c {
         b'0'..=b'9' => Some(c - b'0'),
         b'A'..=b'F' => Some(c - b'A' + 10),

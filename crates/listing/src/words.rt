@@ -1,4 +1,6 @@
 //! Frames, faults and page counts in words, one blank apart, each on a line of its own.
+//!
+//! Not by `Display`: that promises its text only where `fmt` answers `Ok`, and these lines are promised for every frame and fault.
 ghost use Rattle.std.specs.Prelude.{◌≡◌, [], ◌∷◌, ◌++◌};
 ghost use Rattle.listing.specs.Words.{fitted, labelled, order_word, layer_word, setup_words, frame_words, fault_words, busy_words, line_of};
 
@@ -13,9 +15,8 @@ pub const LONGEST_WORDS: usize = 128;
 /// A line of words.
 pub type Words = Bytes<LONGEST_WORDS>;
 
-// No `Display` here: it promises its text only where `fmt` answers `Ok`, and these lines are promised for every frame and fault.
-
 /// Appends a label and a number, as far as there is room.
+#[tactic(auto, using(crate::proofs::Lines::two_pieces))]
 fn append_labelled(out: &mut Words, label: &[u8], n: u64)
     ensures { out.new ≡ fitted out.old (labelled label.now n) }
 {
@@ -24,6 +25,7 @@ fn append_labelled(out: &mut Words, label: &[u8], n: u64)
 }
 
 /// Appends a label and a word, as far as there is room.
+#[tactic(auto, using(crate::proofs::Lines::two_pieces))]
 fn append_named(out: &mut Words, label: &[u8], word: &[u8])
     ensures { out.new ≡ fitted out.old (label.now ++ word.now) }
 {

@@ -1,4 +1,4 @@
-// The record of a block.
+//! The record of a block.
 ghost use Rattle.std.specs.Prelude.{ℕ, ◌≤◌};
 
 use crate::record::Numbered;

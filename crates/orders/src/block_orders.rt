@@ -1,5 +1,5 @@
-// The orders of block records. Each is one comparison of tuples, with a definition of its own: one impl for all orders
-// by a rank would take a rank and its laws from each, and say no less; and cost-benefit has no rank of one record.
+//! The orders of block records. Each is one comparison of tuples, with a definition of its own: one impl for all orders
+//! by a rank would take a rank and its laws from each, and be no shorter; and cost-benefit has no rank of one record.
 ghost use Rattle.std.specs.Prelude.{◌≡◌};
 ghost use Rattle.std.proofs.Common.{rules};
 ghost use Rattle.orders.specs.Ranks.{least_erased, fewest_live, cost_benefit};

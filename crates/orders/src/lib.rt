@@ -1,6 +1,7 @@
+//! Records of blocks and pages, and the orders that rank them.
+
 #![tactic(auto)]
 
-// Records of blocks and pages, and the orders that rank them.
 pub mod block;
 pub mod block_orders;
 pub mod order;

@@ -1,4 +1,4 @@
-// What an order of records is.
+//! What an order of records is.
 ghost use Rattle.std.specs.Prelude.{◌≡◌, Bool};
 ghost use Rattle.orders.specs.Laws.{Total, Transitive};
 

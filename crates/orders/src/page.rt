@@ -1,4 +1,4 @@
-// The record of a page.
+//! The record of a page.
 ghost use Rattle.std.specs.Prelude.{ℕ};
 
 use crate::record::Numbered;

@@ -1,4 +1,4 @@
-// The order of page records.
+//! The order of page records.
 ghost use Rattle.std.specs.Prelude.{Bool};
 ghost use Rattle.orders.specs.Ranks.{busiest};
 ghost use Rattle.std.proofs.Common.{rules};

@@ -1,4 +1,4 @@
-// What every record has: a number.
+//! What every record has: a number.
 ghost use Rattle.std.specs.Prelude.{◌≡◌, ℕ};
 
 /// A record that is known by a number.

@@ -1,4 +1,4 @@
-// The orders that choose a victim to clean.
+//! The orders that choose a victim to clean.
 ghost use Rattle.std.specs.Prelude.{◌≡◌};
 ghost use Rattle.std.proofs.Common.{rules};
 ghost use Rattle.orders.specs.Victims.{FullLast};

@@ -1,4 +1,4 @@
-// The worked cases of the orders.
+//! The worked cases of the orders.
 ghost use Rattle.orders.specs.Worked.{WorkedCases};
 
 /// Promises that each worked case holds, of the definitions that the orders' contracts cite.

@@ -20,8 +20,8 @@ pub struct Pair<A, B> {
     second: B,
 }
 
-/// Which of two chips has a block, and the block's number there.
-// Each call matches on it: handing a closure for either chip to one function is no shorter, and changes need a second one.
+/// Which of two chips has a block, and the block's number there. Each call matches on it: one function that takes a closure for
+/// either chip is no shorter, and calls that change the chip need a second one.
 enum Half {
     First(u16),
     Second(u16),

@@ -1,5 +1,5 @@
-// The laws of the rules: facts about the definitions that say what a leveller does, for every sound leveller and
-// every victim order that keeps just its laws.
+//! The laws of the rules: facts about the definitions that say what a leveller does, for every sound leveller and
+//! every victim order that keeps just its laws.
 ghost use Rattle.rules.specs.Laws.{NewSound, StartKeeps, WriteKeeps, ReadKeeps, DiscardKeeps, WriteObeyed, WriteOnce, CleaningGains, SearchEnds, LevellingEnds};
 
 /// Promises that a leveller that is not started is sound.

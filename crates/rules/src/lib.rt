@@ -77,6 +77,7 @@ impl Refusal {
     pub fn number(self) -> u8
         ensures { result ≡ number_of self }
     {
+        // not by one trait for all refusals: each crate's have a definition of their own
         self as u8
     }
 }

@@ -1,4 +1,4 @@
-// The worked examples of the rules.
+//! The worked examples of the rules.
 ghost use Rattle.rules.specs.Worked.{WorkedExamples};
 
 /// Promises that each worked example holds, of the definitions that say what a leveller does.

@@ -42,16 +42,17 @@ impl FrameFault {
     pub fn number(self) -> u8
         ensures { result ≡ frame_number self }
     {
+        // not by one trait for all refusals: each crate's have a definition of their own
         self as u8
     }
 }
 
 impl Cause {
-    // A match and no discriminants, since each layer numbers its own refusals.
     /// The number of the refusal.
     pub fn number(self) -> u8
         ensures { result ≡ cause_number self }
     {
+        // a match and no discriminants, since each layer numbers its own refusals
         match self {
             Cause::Text(fault) => fault.number(),
             Cause::Frame(fault) => fault.number(),
@@ -69,6 +70,7 @@ impl Cause {
     }
 }
 
+// The two are by hand, since clauses read what `?` gives, and a derived one says nothing of it.
 impl From<TextFault> for Cause {
     ghost from_gives = { λ e r. r ≡ Text e };
 

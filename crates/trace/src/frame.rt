@@ -1,6 +1,7 @@
 //! The frames of a trace, and which frame a line's bytes are.
-ghost use Rattle.std.specs.Prelude.{◌≡◌};
-ghost use Rattle.trace.specs.Frames.{order_of, frame_of};
+ghost use Rattle.std.specs.Prelude.{◌≡◌, cond, Err};
+ghost use Rattle.trace.specs.declared.fault.FrameFault.TheVariants.{WrongForm};
+ghost use Rattle.trace.specs.Frames.{order_of, shaped, setup_of, frame_of};
 
 use crate::fault::FrameFault;
 use hexadecimal::check::check_sum;
@@ -57,6 +58,43 @@ pub enum Frame {
     Read { page: u16 },
 }
 
+/// The frame that a setup's bytes are.
+fn setup_frame(bytes: &[u8]) -> Result<Frame, FrameFault>
+    ensures { result ≡ cond (shaped 1 17 bytes.now) (setup_of bytes.now) (Err WrongForm) }
+{
+    match *bytes {
+        [
+            1,
+            n1,
+            n0,
+            pages,
+            d1,
+            d0,
+            e3,
+            e2,
+            e1,
+            e0,
+            k,
+            t1,
+            t0,
+            order,
+            l1,
+            l0,
+            _,
+        ] => Ok(Frame::Setup(Settings {
+            blocks: u16::from_be_bytes([n1, n0]),
+            pages,
+            bytes: u16::from_be_bytes([d1, d0]),
+            erases: u32::from_be_bytes([e3, e2, e1, e0]),
+            k,
+            threshold: u16::from_be_bytes([t1, t0]),
+            order: OrderKind::try_from(order)?,
+            logical: u16::from_be_bytes([l1, l0]),
+        })),
+        _ => Err(FrameFault::WrongForm),
+    }
+}
+
 impl<'a> TryFrom<&'a [u8]> for Frame {
     type Error = FrameFault;
 
@@ -68,34 +106,7 @@ impl<'a> TryFrom<&'a [u8]> for Frame {
             return Err(FrameFault::WrongCheck);
         }
         match *bytes {
-            [
-                1,
-                n1,
-                n0,
-                pages,
-                d1,
-                d0,
-                e3,
-                e2,
-                e1,
-                e0,
-                k,
-                t1,
-                t0,
-                order,
-                l1,
-                l0,
-                _,
-            ] => Ok(Frame::Setup(Settings {
-                blocks: u16::from_be_bytes([n1, n0]),
-                pages,
-                bytes: u16::from_be_bytes([d1, d0]),
-                erases: u32::from_be_bytes([e3, e2, e1, e0]),
-                k,
-                threshold: u16::from_be_bytes([t1, t0]),
-                order: OrderKind::try_from(order)?,
-                logical: u16::from_be_bytes([l1, l0]),
-            })),
+            [1, ..] => setup_frame(bytes),
             [2, high, low, fill, _] => Ok(Frame::Write {
                 page: u16::from_be_bytes([high, low]),
                 fill,

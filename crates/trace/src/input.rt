@@ -1,6 +1,6 @@
 //! Whole inputs: what is done with each of their frames.
 ghost use Rattle.std.specs.Prelude.{◌≡◌, Ok, Some, None, IfOk, OnOk, IfSome};
-ghost use Rattle.std.specs.List.{FoldsTo};
+ghost use Rattle.trace.specs.Inputs.{Called};
 ghost use Rattle.trace.specs.Reading.{read_all};
 ghost use Rattle.trace.specs.Steps.{ending, after_all, news, heard, fault_in};
 
@@ -21,7 +21,7 @@ fn each_frame_within<F: FnMut(Frame) -> io::Result<()>>(
 ) -> io::Result<Option<Fault>>
     requires { F.IsAlwaysCallable on_frame.old }
     ensures callable { OnOk result (F.IsAlwaysCallable on_frame.new) }
-    ensures frames { OnOk result (FoldsTo (λ p x q. F.step p x (Ok tt) q) on_frame.old (heard reader.old piece.now) on_frame.new) }
+    ensures frames { OnOk result (Called F.step on_frame.old (heard reader.old piece.now) on_frame.new) }
     ensures fault { IfOk result (λ fault. IfSome fault (λ e. (after_all reader.old piece.now).fault ≡ Some e)) }
     ensures after { result ≡ Ok None → reader.new ≡ after_all reader.old piece.now }
 {
@@ -42,7 +42,7 @@ fn last_frame<F: FnMut(Frame) -> io::Result<()>>(
 ) -> io::Result<Option<Fault>>
     requires { F.IsAlwaysCallable on_frame.old }
     ensures fault { IfOk result (λ fault. fault ≡ fault_in (ending reader)) }
-    ensures frames { OnOk result (FoldsTo (λ p x q. F.step p x (Ok tt) q) on_frame.old (news (ending reader)) on_frame.new) }
+    ensures frames { OnOk result (Called F.step on_frame.old (news (ending reader)) on_frame.new) }
 {
     match reader.finish() {
         Ok(Some(frame)) => {
@@ -61,7 +61,7 @@ pub fn each_frame<R: Read, F: FnMut(Frame) -> io::Result<()>>(
 ) -> io::Result<Option<Fault>>
     requires { F.IsAlwaysCallable on_frame.old }
     ensures fault { IfOk result (λ fault. IfSome (R.remaining input.old) (λ bytes. fault ≡ (read_all bytes).fault)) }
-    ensures frames { OnOk result (IfSome (R.remaining input.old) (λ bytes. FoldsTo (λ p x q. F.step p x (Ok tt) q) on_frame.old (read_all bytes).frames on_frame.new)) }
+    ensures frames { OnOk result (IfSome (R.remaining input.old) (λ bytes. Called F.step on_frame.old (read_all bytes).frames on_frame.new)) }
 {
     let mut reader = Reader::new();
     let mut piece = [0u8; PIECE];

@@ -20,7 +20,7 @@ const LINE_FEED: u8 = b'\n';
 #[derive(Drop)]
 pub struct Reader {
     line: u64,
-    // A field of its own, since a fault comes before or after the setup, and where a stopped reader stands says both.
+    // beside `fault`, since a fault comes before or after the setup, and the state that clauses see has both
     started: bool,
     rest: Bytes<LONGEST_LINE>,
     fault: Option<Fault>,

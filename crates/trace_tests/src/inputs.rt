@@ -1,15 +1,11 @@
 //! Whole inputs: how many frames they tell, and which fault ends them.
-use hexadecimal::text::TextFault;
+use crate::lines::{CHECK, NOT_HEX};
 use std::io;
 use std::test::Fail;
 use trace::fault::{Cause, Fault, FrameFault};
 use trace::frame::Frame;
 use trace::input::each_frame;
 use trace::reader::Reader;
-
-const NOT_HEX: Cause = Cause::Text(TextFault::NotHexadecimal);
-
-const CHECK: Cause = Cause::Frame(FrameFault::WrongCheck);
 
 const PLACE: Cause = Cause::Frame(FrameFault::WrongPlace);
 

@@ -5,9 +5,9 @@ use trace::fault::{Cause, FrameFault};
 use trace::frame::Frame;
 use trace::line::read_line;
 
-const NOT_HEX: Cause = Cause::Text(TextFault::NotHexadecimal);
+pub const NOT_HEX: Cause = Cause::Text(TextFault::NotHexadecimal);
 
-const CHECK: Cause = Cause::Frame(FrameFault::WrongCheck);
+pub const CHECK: Cause = Cause::Frame(FrameFault::WrongCheck);
 
 const FORM: Cause = Cause::Frame(FrameFault::WrongForm);
 
