@@ -99,7 +99,7 @@ fn memory_in_use_before_does_not_matter(rt: HostRuntime) {
 }
 
 /// What comes of adding two blocks to a heap in an order, and the block that is first then.
-fn first_of<O: Order<BlockRecord>>(
+fn first_of<O: Order<BlockRecord> + Drop>(
     order: O,
     one: BlockRecord,
     other: BlockRecord,
