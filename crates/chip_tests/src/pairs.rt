@@ -52,7 +52,8 @@ fn common_numbers(rt: HostRuntime) {
     assert_eq!(rt; joined_with(Geometry::none()), Geometry::none());
 }
 
-/// Runs a table on the pair of a chip of two blocks and one of the geometry handed in.
+/// Runs a table on the pair of a chip of two blocks and one of the geometry handed in. The pair is made anew, here and above:
+/// its memory is lent, so that no function can hand it out.
 fn on_a_pair(rt: &impl Abort, other: Geometry, table: &[(Call, Outcome)]) {
     let mut tags = [0u16; 4];
     let mut bytes = [0u8; 4];
