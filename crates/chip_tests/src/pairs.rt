@@ -16,15 +16,25 @@ const TINY: Geometry = Geometry {
 /// Three blocks, and otherwise the same.
 const LARGER: Geometry = Geometry { blocks: 3, ..TINY };
 
-/// N, P, D and E of the pair of a chip of two blocks and one of the geometry handed in.
-fn joined_with(other: Geometry) -> Geometry {
+/// What a call tells of the pair of a chip of two blocks and one of the geometry handed in.
+fn with_pair<T, F: FnOnce(&mut Pair<Emulated<'_>, Emulated<'_>>) -> T>(
+    other: Geometry,
+    call: F,
+) -> T
+    requires { F.IsAlwaysCallable call }
+{
     let mut tags = [0u16; 4];
     let mut bytes = [0u8; 4];
     let mut more_tags = [0u16; 40];
     let mut more_bytes = [0u8; 40];
     let first = Emulated::new(TINY, &mut tags, &mut bytes);
     let second = Emulated::new(other, &mut more_tags, &mut more_bytes);
-    Pair::new(first, second).geometry()
+    call(&mut Pair::new(first, second))
+}
+
+/// N, P, D and E of that pair.
+fn joined_with(other: Geometry) -> Geometry {
+    with_pair(other, |pair| pair.geometry())
 }
 
 #[test]
@@ -52,16 +62,9 @@ fn common_numbers(rt: HostRuntime) {
     assert_eq!(rt; joined_with(Geometry::none()), Geometry::none());
 }
 
-/// Runs a table on the pair of a chip of two blocks and one of the geometry handed in. The pair is made anew, here and above:
-/// its memory is lent, so that no function can hand it out.
+/// Runs a table on it.
 fn on_a_pair(rt: &impl Abort, other: Geometry, table: &[(Call, Outcome)]) {
-    let mut tags = [0u16; 4];
-    let mut bytes = [0u8; 4];
-    let mut more_tags = [0u16; 40];
-    let mut more_bytes = [0u8; 40];
-    let first = Emulated::new(TINY, &mut tags, &mut bytes);
-    let second = Emulated::new(other, &mut more_tags, &mut more_bytes);
-    run(rt, &mut Pair::new(first, second), table);
+    with_pair(other, |pair| run(rt, pair, table));
 }
 
 #[test]

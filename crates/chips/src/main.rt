@@ -124,6 +124,7 @@ impl<C: Chip> Exercise<'_, C> {
     }
 }
 
+// Built here and not in `main`, where the check does not follow the lifetimes of a struct over a chip over lent memory.
 fn exercise_on<C: Chip>(rt: &HostRuntime, chip: &mut C) -> io::Result<()> {
     let mut exercise = Exercise { rt, chip };
     exercise.run()

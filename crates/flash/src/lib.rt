@@ -73,7 +73,7 @@ impl Refusal {
     pub fn number(self) -> u8
         ensures { result ≡ number_of self }
     {
-        // not by one trait for all refusals: each crate's have a definition of their own
+        // one trait for all refusals would need a crate below all five, and hold this line
         self as u8
     }
 }

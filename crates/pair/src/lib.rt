@@ -72,6 +72,7 @@ impl<A: Chip, B: Chip> Chip for Pair<A, B> {
     ghost laws = { lawful_by_meaning (λ s. joined (A.Chip.meaning s.first) (B.Chip.meaning s.second)) (λ s. joined_formed (A.Chip.meaning s.first) (B.Chip.meaning s.second) (A.Chip.laws.formed s.first) (B.Chip.laws.formed s.second)) };
 
     fn geometry(&self) -> Geometry {
+        // as in `half`: an option of both geometries would need a definition of its own, and save two lines
         let a = self.first.geometry();
         let b = self.second.geometry();
         if joins(&a, &b) {

@@ -54,7 +54,8 @@ fn last_frame<F: FnMut(Frame) -> io::Result<()>>(
     }
 }
 
-/// Reads a whole input and calls `on_frame` with each of its frames, in order. The answer is the fault that ends them, if one does.
+/// Reads a whole input and calls `on_frame` with each of its frames, in order. The answer is the fault that ends them, if one does:
+/// an answer and no error, since programs go on after it.
 pub fn each_frame<R: Read, F: FnMut(Frame) -> io::Result<()>>(
     input: &mut R,
     on_frame: &mut F,

@@ -6,13 +6,13 @@ ghost use Rattle.trace.specs.Steps.{State, beginning, step, line_end, stopped, e
 
 use crate::fault::{Cause, Fault, FrameFault};
 use crate::frame::Frame;
-use crate::line::read_line;
+use crate::line::{LONGEST_FRAME, read_line};
 use bounded::bytes::{Bytes, Full};
 use hexadecimal::text::TextFault;
 use std::marker::Model;
 
 /// The longest line of a trace, in characters.
-pub const LONGEST_LINE: usize = 34;
+pub const LONGEST_LINE: usize = 2 * LONGEST_FRAME;
 
 const LINE_FEED: u8 = b'\n';
 

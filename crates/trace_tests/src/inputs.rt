@@ -9,7 +9,7 @@ use trace::reader::Reader;
 
 const PLACE: Cause = Cause::Frame(FrameFault::WrongPlace);
 
-/// Reads an input that comes byte by byte, and counts the frames that it tells.
+/// Reads an input that comes byte by byte, and counts the frames that it tells, those before a fault too.
 fn count(input: &[u8], frames: &mut u32) -> Result<(), Fault> {
     let mut reader = Reader::new();
     for byte in input {
