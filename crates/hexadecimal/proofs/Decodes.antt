@@ -1,5 +1,6 @@
 -- How the bytes of a text come one after another.
-use Rattle.std.proofs.Common.{◌≡◌, ℕ, ◌*◌, ◌%◌, ◌<◌, ◌≤◌, List, [], ◌∷◌, ◌++◌, length, get_or, Some, None, Option, sym, refl, ap, ◌∙◌, append_assoc, arith}
+use Rattle.std.proofs.Common.{◌≡◌, ℕ, suc, ◌+◌, ◌*◌, ◌%◌, ◌<◌, ◌≤◌, drop, List, [], ◌∷◌, ◌++◌, length, get_or, Some, None, Option, sym, refl, ap, ◌∙◌, append_assoc, arith}
+use Rattle.std.proofs.Math.Seq.{drop-cons}
 use Rattle.std.proofs.lemmas.Bool.Decides.{nat_tests}
 use Rattle.hexadecimal.specs.Text.{pair_value, put, decoded, line_bytes}
 
@@ -17,11 +18,20 @@ before_put bs b None = refl
 before_put bs b (Some cs) = ap Some (sym (append_assoc bs (b ∷ []) cs))
 
 -- a text of which the bytes bs came, from the next two digits on
-pub decoded_pair : (ds bs rest two after : List ℕ) (o b : Option ℕ) → decoded ds ≡ before bs (decoded rest) → rest ≡ two ++ after → length two ≡ 2 → o ≡ pair_value (get_or two 0 0) (get_or two 1 0) → o ≡ b → decoded ds ≡ before bs (put b (decoded after))
-decoded_pair ds bs rest [] after o b p e n v is = absurd (omega arith)
-decoded_pair ds bs rest (h ∷ []) after o b p e n v is = absurd (omega arith)
-decoded_pair ds bs rest (h ∷ l ∷ []) after o b p e n v is = p ∙ ap (λ r. before bs (decoded r)) e ∙ ap (λ c. before bs (put c (decoded after))) (sym v ∙ is)
-decoded_pair ds bs rest (h ∷ l ∷ d ∷ two) after o b p e n v is = absurd (omega arith)
+pub decoded_on : (ds bs rest two after : List ℕ) (o b : Option ℕ) → decoded ds ≡ before bs (decoded rest) → rest ≡ two ++ after → length two ≡ 2 → o ≡ pair_value (get_or two 0 0) (get_or two 1 0) → o ≡ b → decoded ds ≡ before bs (put b (decoded after))
+decoded_on ds bs rest [] after o b p e n v is = absurd (omega arith)
+decoded_on ds bs rest (h ∷ []) after o b p e n v is = absurd (omega arith)
+decoded_on ds bs rest (h ∷ l ∷ []) after o b p e n v is = p ∙ ap (λ r. before bs (decoded r)) e ∙ ap (λ c. before bs (put c (decoded after))) (sym v ∙ is)
+decoded_on ds bs rest (h ∷ l ∷ d ∷ two) after o b p e n v is = absurd (omega arith)
+
+-- the text from one pair of digits on
+pub decoded_pair : (ds : List ℕ) (i : ℕ) → 2 * i + 1 < length ds → decoded (drop (2 * i) ds) ≡ put (pair_value (get_or ds (2 * i) 0) (get_or ds (2 * i + 1) 0)) (decoded (drop (2 * (i + 1)) ds))
+decoded_pair ds i h =
+    let first = drop-cons ds (2 * i) 0 (omega arith) in
+    let second = drop-cons ds (2 * i + 1) 0 h in
+    let next : suc (2 * i) ≡ 2 * i + 1 = omega arith in
+    let after : suc (2 * i + 1) ≡ 2 * (i + 1) = omega arith in
+    ap decoded (first ∙ ap (λ r. get_or ds (2 * i) 0 ∷ r) (ap (λ j. drop j ds) next ∙ second)) ∙ ap (λ j. put (pair_value (get_or ds (2 * i) 0) (get_or ds (2 * i + 1) 0)) (decoded (drop j ds))) after
 
 put_none : (b : Option ℕ) → put b None ≡ None
 put_none None = refl

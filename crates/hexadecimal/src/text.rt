@@ -1,5 +1,6 @@
 //! A line of hexadecimal digits to bytes.
 ghost use Rattle.std.specs.Prelude.{◌≡◌, Some, None, MatchResult};
+ghost use Rattle.bounded.specs.Buffer.{held};
 ghost use Rattle.hexadecimal.specs.Refusals.{text_number};
 ghost use Rattle.hexadecimal.specs.Text.{digit_value, pair_value, line_bytes, Spells, Unspelled};
 
@@ -45,8 +46,8 @@ pub fn pair(high: u8, low: u8) -> Option<u8>
 /// The bytes of a line of two to `2 * N` hexadecimal digits: those that it spells, in digits of either case. A line that spells
 /// no such bytes is refused.
 pub fn decode<const N: usize>(line: &[u8]) -> Result<Bytes<N>, TextFault>
-    ensures answer { MatchResult result (λ b. line_bytes N line.now ≡ Some b) (λ _. line_bytes N line.now ≡ None) }
-    ensures spelled { MatchResult result (λ b. Spells line.now b) (λ _. Unspelled N line.now) }
+    ensures answer { MatchResult result (λ b. line_bytes N line.now ≡ Some (held b)) (λ _. line_bytes N line.now ≡ None) }
+    ensures spelled { MatchResult result (λ b. Spells line.now (held b)) (λ _. Unspelled N line.now) }
 {
     if line.is_empty() || line.len() % 2 != 0 || line.len() / 2 > N {
         return Err(TextFault::NotHexadecimal);

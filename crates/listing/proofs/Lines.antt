@@ -1,16 +1,11 @@
 -- A line of words, appended piece by piece to an empty buffer with room for it.
-use Rattle.std.proofs.Common.{◌≡◌, ℕ, zero, suc, ◌≤◌, List, [], ◌∷◌, ◌++◌, length, take, refl, ap, ◌∙◌, append_assoc, take_all, lit≤}
+use Rattle.std.proofs.Common.{◌≡◌, ℕ, ◌≤◌, List, [], ◌++◌, length, take, ap, ◌∙◌, append_assoc, take_all, lit≤}
 use Rattle.trace.specs.declared.fault.Layer.{Layer}
 use Rattle.trace.specs.declared.fault.Layer.TheVariants as layer
 use Rattle.trace.specs.declared.frame.OrderKind.{OrderKind}
 use Rattle.trace.specs.declared.frame.OrderKind.TheVariants.{FewestLive, CostBenefit}
+use Rattle.bounded.proofs.Fronts.{take_front}
 use Rattle.listing.specs.Words.{order_word, layer_word, fitted}
-
--- a front of a front, with more behind it
-pub take_front : (n : ℕ) (xs ys : List ℕ) → take n (take n xs ++ ys) ≡ take n (xs ++ ys)
-take_front zero xs ys = refl
-take_front (suc n) [] ys = refl
-take_front (suc n) (x ∷ xs) ys = ap (λ l. x ∷ l) (take_front n xs ys)
 
 -- one piece after another
 pub fitted_twice : (bytes xs ys : List ℕ) → fitted (fitted bytes xs) ys ≡ fitted bytes (xs ++ ys)

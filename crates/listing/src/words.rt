@@ -2,6 +2,7 @@
 //!
 //! Not by `Display`: that promises its text only where `fmt` answers `Ok`, and these lines are promised for every frame and fault.
 ghost use Rattle.std.specs.Prelude.{◌≡◌, [], ◌∷◌, ◌++◌};
+ghost use Rattle.bounded.specs.Buffer.{held};
 ghost use Rattle.listing.specs.Words.{fitted, labelled, order_word, layer_word, setup_words, frame_words, fault_words, busy_words, line_of};
 
 use bounded::bytes::Bytes;
@@ -18,7 +19,7 @@ pub type Words = Bytes<LONGEST_WORDS>;
 /// Appends a label and a number, as far as there is room.
 #[tactic(auto, using(crate::proofs::Lines::two_pieces))]
 fn append_labelled(out: &mut Words, label: &[u8], n: u64)
-    ensures { out.new ≡ fitted out.old (labelled label.now n) }
+    ensures { held out.new ≡ fitted (held out.old) (labelled label.now n) }
 {
     out.append(label);
     append_decimal(out, n);
@@ -27,7 +28,7 @@ fn append_labelled(out: &mut Words, label: &[u8], n: u64)
 /// Appends a label and a word, as far as there is room.
 #[tactic(auto, using(crate::proofs::Lines::two_pieces))]
 fn append_named(out: &mut Words, label: &[u8], word: &[u8])
-    ensures { out.new ≡ fitted out.old (label.now ++ word.now) }
+    ensures { held out.new ≡ fitted (held out.old) (label.now ++ word.now) }
 {
     out.append(label);
     out.append(word);
@@ -36,7 +37,7 @@ fn append_named(out: &mut Words, label: &[u8], word: &[u8])
 /// Ends the line, as far as there is room.
 #[tactic(auto, unfolding(crate::specs::Words::fitted))]
 fn end_line(out: &mut Words)
-    ensures { out.new ≡ fitted out.old (10 ∷ []) }
+    ensures { held out.new ≡ fitted (held out.old) (10 ∷ []) }
 {
     out.append(b"\n");
 }
@@ -63,7 +64,7 @@ fn layer_name(layer: Layer) -> &'static [u8]
 
 /// The line of words for a setup.
 fn setup_line(settings: &Settings) -> Words
-    ensures { result ≡ line_of (setup_words settings.now) }
+    ensures { held result ≡ line_of (setup_words settings.now) }
 {
     let Settings {
         blocks,
@@ -90,7 +91,7 @@ fn setup_line(settings: &Settings) -> Words
 
 /// The line of words for a frame.
 pub fn frame_line(frame: &Frame) -> Words
-    ensures { result ≡ line_of (frame_words frame.now) }
+    ensures { held result ≡ line_of (frame_words frame.now) }
 {
     let mut out = Words::new();
     match *frame {
@@ -108,7 +109,7 @@ pub fn frame_line(frame: &Frame) -> Words
 
 /// The line of words for a fault.
 pub fn fault_line(fault: &Fault) -> Words
-    ensures { result ≡ line_of (fault_words fault.now) }
+    ensures { held result ≡ line_of (fault_words fault.now) }
 {
     let Fault { cause, line } = *fault;
     let mut out = Words::new();
@@ -121,7 +122,7 @@ pub fn fault_line(fault: &Fault) -> Words
 
 /// The line of words for a page and how often it was written.
 pub fn busy_line(page: u16, writes: u64) -> Words
-    ensures { result ≡ line_of (busy_words page writes) }
+    ensures { held result ≡ line_of (busy_words page writes) }
 {
     let mut out = Words::new();
     append_labelled(&mut out, b"busy ", u64::from(page));

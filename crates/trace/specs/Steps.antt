@@ -1,5 +1,6 @@
 -- How a reader goes through an input byte by byte, keeping at most one line of 34 characters.
 use Rattle.std.specs.Prelude.{ℕ, Bool, true, false, cond, List, [], ◌∷◌, ◌++◌, length, Some, None, Ok, Err, Option, Result, ◌==◌, nat_lt}
+use Rattle.bounded.specs.Buffer.{held}
 use Rattle.hexadecimal.specs.declared.text.TextFault.TheVariants.{NotHexadecimal}
 use Rattle.trace.specs.Lines.{line_frame}
 use Rattle.trace.specs.Reading.{Reading, placed, next_line, faulty}
@@ -8,6 +9,7 @@ use Rattle.trace.specs.declared.fault.Cause.TheVariants as cause
 use Rattle.trace.specs.declared.fault.FrameFault.TheVariants.{WrongPlace}
 use Rattle.trace.specs.declared.fault.Fault.{Fault}
 use Rattle.trace.specs.declared.frame.Frame.{Frame}
+use Rattle.trace.specs.declared.reader.Reader.{Reader}
 
 -- where a reader stands: the number of the line it is in, whether the setup has come, what it has of that line, and the fault
 -- that has stopped it
@@ -16,6 +18,10 @@ pub record State : Type 0 where
   pub started : Bool
   pub rest : List ℕ
   pub fault : Option Fault
+
+-- what a reader holds
+abbrev pub view : Reader → State
+view r = record { line = r.line; started = r.started; rest = held r.rest; fault = r.fault }
 
 abbrev pub beginning : State
 beginning = record { line = 1; started = false; rest = []; fault = None }

@@ -2,7 +2,7 @@
 ghost use Rattle.std.specs.Prelude.{◌≡◌, Ok, Some, None, IfOk, OnOk, IfSome};
 ghost use Rattle.trace.specs.Inputs.{Called};
 ghost use Rattle.trace.specs.Reading.{read_all};
-ghost use Rattle.trace.specs.Steps.{ending, after_all, news, heard, fault_in};
+ghost use Rattle.trace.specs.Steps.{view, ending, after_all, news, heard, fault_in};
 
 use crate::fault::Fault;
 use crate::frame::Frame;
@@ -21,9 +21,9 @@ fn each_frame_within<F: FnMut(Frame) -> io::Result<()>>(
 ) -> io::Result<Option<Fault>>
     requires { F.IsAlwaysCallable on_frame.old }
     ensures callable { OnOk result (F.IsAlwaysCallable on_frame.new) }
-    ensures frames { OnOk result (Called F.step on_frame.old (heard reader.old piece.now) on_frame.new) }
-    ensures fault { IfOk result (λ fault. IfSome fault (λ e. (after_all reader.old piece.now).fault ≡ Some e)) }
-    ensures after { result ≡ Ok None → reader.new ≡ after_all reader.old piece.now }
+    ensures frames { OnOk result (Called F.step on_frame.old (heard (view reader.old) piece.now) on_frame.new) }
+    ensures fault { IfOk result (λ fault. IfSome fault (λ e. (after_all (view reader.old) piece.now).fault ≡ Some e)) }
+    ensures after { result ≡ Ok None → view reader.new ≡ after_all (view reader.old) piece.now }
 {
     for byte in piece {
         match reader.push(*byte) {
@@ -41,8 +41,8 @@ fn last_frame<F: FnMut(Frame) -> io::Result<()>>(
     on_frame: &mut F,
 ) -> io::Result<Option<Fault>>
     requires { F.IsAlwaysCallable on_frame.old }
-    ensures fault { IfOk result (λ fault. fault ≡ fault_in (ending reader)) }
-    ensures frames { OnOk result (Called F.step on_frame.old (news (ending reader)) on_frame.new) }
+    ensures fault { IfOk result (λ fault. fault ≡ fault_in (ending (view reader))) }
+    ensures frames { OnOk result (Called F.step on_frame.old (news (ending (view reader))) on_frame.new) }
 {
     match reader.finish() {
         Ok(Some(frame)) => {

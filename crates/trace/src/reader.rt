@@ -1,15 +1,15 @@
 //! The reader of a whole input, which arrives byte by byte.
 ghost use Rattle.std.specs.Prelude.{◌≡◌, ℕ, ◌≤◌, List, length, Ok, Err};
+ghost use Rattle.bounded.specs.Buffer.{held};
 ghost use Rattle.trace.specs.Reading.{faulty, in_place, placed, read_all};
 ghost use Rattle.trace.specs.Lines.{line_frame};
-ghost use Rattle.trace.specs.Steps.{State, beginning, step, line_end, stopped, ending, after_all, heard, concluded};
+ghost use Rattle.trace.specs.Steps.{view, beginning, step, line_end, stopped, ending, after_all, heard, concluded};
 
 use crate::fault::{Cause, Fault, FrameFault};
 use crate::frame::Frame;
 use crate::line::{LONGEST_FRAME, read_line};
 use bounded::bytes::{Bytes, Full};
 use hexadecimal::text::TextFault;
-use std::marker::Model;
 
 /// The longest line of a trace, in characters.
 pub const LONGEST_LINE: usize = 2 * LONGEST_FRAME;
@@ -24,18 +24,6 @@ pub struct Reader {
     started: bool,
     rest: Bytes<LONGEST_LINE>,
     fault: Option<Fault>,
-}
-
-// Clauses see where the reader stands.
-impl Model for Reader {
-    ghost use Rattle.std.specs.Prelude.{◌≤◌, length};
-    ghost use Rattle.trace.specs.Steps.{State};
-
-    ghost Value = { State };
-
-    ghost view = { λ r. record { line = r.line; started = r.started; rest = r.rest; fault = r.fault } };
-
-    ghost invariant = { λ r. length r.rest ≤ 34 };
 }
 
 /// Whether a frame may stand there: the one setup comes before all others.
@@ -63,7 +51,7 @@ fn read_placed(line: &[u8], started: bool) -> Result<Frame, Cause>
 impl Reader {
     /// A reader before the first byte of an input.
     pub fn new() -> Reader
-        ensures { result ≡ beginning }
+        ensures { view result ≡ beginning }
     {
         Reader {
             line: 1,
@@ -76,9 +64,9 @@ impl Reader {
     /// Takes one byte more: answers the frame of a line that ends with it, nothing yet, or the fault. After a fault it changes
     /// nothing and answers the same fault again.
     pub fn push(&mut self, byte: u8) -> Result<Option<Frame>, Fault>
-        ensures after { self.new ≡ (step self.old byte).after }
-        ensures answer { result ≡ (step self.old byte).answer }
-        ensures one_line { length self.new.rest ≤ 34 }
+        ensures after { view self.new ≡ (step (view self.old) byte).after }
+        ensures answer { result ≡ (step (view self.old) byte).answer }
+        ensures one_line { length (held self.new.rest) ≤ 34 }
     {
         if let Some(fault) = self.fault {
             return Err(fault);
@@ -97,8 +85,8 @@ impl Reader {
     /// the whole input tells.
     #[tactic(auto, using(crate::proofs::Whole::whole_from))]
     pub fn finish(mut self) -> Result<Option<Frame>, Fault>
-        ensures answer { result ≡ ending self }
-        ensures whole { (input : List ℕ) → self ≡ after_all beginning input → read_all input ≡ concluded (heard beginning input) result }
+        ensures answer { result ≡ ending (view self) }
+        ensures whole { (input : List ℕ) → view self ≡ after_all beginning input → read_all input ≡ concluded (heard beginning input) result }
     {
         if let Some(fault) = self.fault {
             return Err(fault);
@@ -115,9 +103,9 @@ impl Reader {
 
     /// The frame of the line that has ended, or the fault.
     fn end_line(&mut self) -> Result<Option<Frame>, Fault>
-        ensures after { self.new ≡ (line_end self.old).after }
-        ensures answer { result ≡ (line_end self.old).answer }
-        ensures one_line { length self.new.rest ≤ 34 }
+        ensures after { view self.new ≡ (line_end (view self.old)).after }
+        ensures answer { result ≡ (line_end (view self.old)).answer }
+        ensures one_line { length (held self.new.rest) ≤ 34 }
     {
         match read_placed(self.rest.as_slice(), self.started) {
             Ok(frame) => {
@@ -132,7 +120,7 @@ impl Reader {
 
     /// Stops at a fault in the line that is being read.
     fn stop(&mut self, cause: Cause) -> Fault
-        ensures after { self.new ≡ (stopped self.old result).after }
+        ensures after { view self.new ≡ (stopped (view self.old) result).after }
         ensures value { result ≡ faulty cause self.old.line }
     {
         let fault = Fault {
