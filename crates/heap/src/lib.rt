@@ -8,4 +8,3 @@ pub mod refusal;
 mod rows;
 mod sift;
 mod steps;
-mod tree;

@@ -100,24 +100,26 @@ fn memory_in_use_before_does_not_matter(rt: HostRuntime) {
 
 /// What comes of adding two blocks to a heap in an order, and the block that is first then.
 fn first_of<O: Order<BlockRecord> + Drop>(
+    nodes: &mut [Node<BlockRecord>],
     order: O,
     one: BlockRecord,
     other: BlockRecord,
 ) -> Result<BlockRecord, HeapRefusal> {
-    let mut nodes = [Node::new(one); 2];
-    let mut heap = Heap::new(&mut nodes, order);
+    let mut heap = Heap::new(nodes, order);
     heap.add(one)?;
     heap.add(other)?;
     heap.first()
 }
 
+// One memory serves the three heaps, one after another.
 #[test]
 fn blocks_by_each_order(rt: HostRuntime) {
     let young = block(0, 1, 3);
     let worn = block(1, 9, 1);
-    assert_eq!(rt; first_of(LeastErased, young, worn), Ok(young));
-    assert_eq!(rt; first_of(FewestLive, young, worn), Ok(worn));
-    assert_eq!(rt; first_of(CostBenefit, young, worn), Ok(worn));
+    let mut nodes = [Node::new(young); 2];
+    assert_eq!(rt; first_of(&mut nodes, LeastErased, young, worn), Ok(young));
+    assert_eq!(rt; first_of(&mut nodes, FewestLive, young, worn), Ok(worn));
+    assert_eq!(rt; first_of(&mut nodes, CostBenefit, young, worn), Ok(worn));
 }
 
 #[test]

@@ -1,6 +1,8 @@
 //! A free pool and the closed blocks, held by value in one struct over lent nodes.
-ghost use Rattle.std.specs.Prelude.{◌≡◌, true, is_some, IfOk, MatchResult};
-ghost use Rattle.heap.specs.Heaps.{held, size, Empty, Added};
+ghost use Rattle.std.specs.Prelude.{◌≡◌, ℕ, Bool, true, is_some, IfOk, MatchResult};
+ghost use Rattle.orders.specs.declared.block.BlockRecord.{BlockRecord};
+ghost use Rattle.orders.specs.Ranks.{least_erased};
+ghost use Rattle.heap.specs.Heaps.{held, Sound, Empty, Added};
 ghost use Rattle.heap_tests.specs.Victims.{Frees};
 
 use heap::indexed::Heap;
@@ -12,7 +14,7 @@ use orders::victim::VictimOrder;
 
 /// Blocks that are free, least erased first, and blocks that are closed, best victim first.
 #[derive(Drop)]
-pub struct Pools<'m, V: VictimOrder> {
+pub struct Pools<'m, V> {
     pub free: Heap<'m, BlockRecord, LeastErased>,
     pub closed: Heap<'m, BlockRecord, V>,
 }
@@ -24,8 +26,8 @@ impl<'m, V: VictimOrder> Pools<'m, V> {
         closed: &'m mut [Node<BlockRecord>],
         order: V,
     ) -> Pools<'m, V>
-        ensures free { Empty (held result.free) }
-        ensures closed { Empty (held result.closed) }
+        ensures free { Sound (λ b. b.number) least_erased result.free × Empty (held result.free) }
+        ensures closed { Sound (λ b. b.number) V.Order.before result.closed × Empty (held result.closed) }
     {
         Pools {
             free: Heap::new(free, LeastErased),
@@ -35,7 +37,7 @@ impl<'m, V: VictimOrder> Pools<'m, V> {
 
     /// Adds a free block.
     pub fn offer(&mut self, block: BlockRecord) -> Result<(), HeapRefusal>
-        ensures free { Added self.old.free self.new.free block result }
+        ensures free { Sound (λ b. b.number) least_erased self.old.free → Added (λ b. b.number) least_erased self.old.free self.new.free block result }
         ensures closed { self.new.closed ≡ self.old.closed }
     {
         self.free.add(block)
@@ -43,7 +45,8 @@ impl<'m, V: VictimOrder> Pools<'m, V> {
 
     /// Closes the free block that is first, and says how many are left.
     pub fn close_first(&mut self) -> Result<usize, HeapRefusal>
-        ensures { IfOk result (λ left. left ≡ size self.new.free) }
+        ensures sound { Sound (λ b. b.number) least_erased self.old.free → Sound (λ b. b.number) least_erased self.new.free }
+        ensures left { IfOk result (λ left. left ≡ self.new.free.len) }
     {
         let (first, left) = self.free.pop()?;
         self.closed.add(first)?;
@@ -52,7 +55,8 @@ impl<'m, V: VictimOrder> Pools<'m, V> {
 
     /// The best victim goes back to the pool; its number.
     pub fn clean(&mut self) -> Result<u16, HeapRefusal>
-        ensures { IfOk result (λ number. is_some (held self.old.closed number) ≡ true) }
+        ensures sound { Sound (λ b. b.number) V.Order.before self.old.closed → Sound (λ b. b.number) V.Order.before self.new.closed }
+        ensures number { Sound (λ b. b.number) V.Order.before self.old.closed → IfOk result (λ number. is_some (held self.old.closed number) ≡ true) }
     {
         let (victim, _) = self.closed.pop()?;
         self.free.add(victim)?;
@@ -61,7 +65,7 @@ impl<'m, V: VictimOrder> Pools<'m, V> {
 
     /// The best victim. Where a closed block with as many pages has one to give back, so has this.
     pub fn victim(&self) -> Result<BlockRecord, HeapRefusal>
-        ensures { MatchResult result (λ x. Frees (held self.now.closed) x) (λ _. Empty (held self.now.closed)) }
+        ensures { Sound (λ b. b.number) V.Order.before self.now.closed → MatchResult result (λ x. Frees (held self.now.closed) x) (λ _. Empty (held self.now.closed)) }
     {
         self.closed.first()
     }

@@ -1,4 +1,7 @@
 //! Counting writes.
+ghost use Rattle.std.specs.Prelude.{◌≡◌};
+ghost use Rattle.orders.specs.Ranks.{busiest};
+ghost use Rattle.heap.specs.Heaps.{held, Sound};
 ghost use Rattle.page_counts.specs.Counts.{Counted};
 
 use heap::indexed::Heap;
@@ -7,7 +10,7 @@ use orders::page_orders::BusiestPage;
 
 /// Counts one write more for the page. A page for which the heap's memory has no place is passed over.
 pub fn count_write(counts: &mut Heap<PageRecord, BusiestPage>, page: u16)
-    ensures { Counted counts.old counts.new page }
+    ensures { Sound (λ p. p.number) busiest counts.old → Counted (λ p. p.number) busiest counts.old counts.new page }
 {
     let before = counts.get(page).map_or(0, |old| old.writes);
     let record = PageRecord {

@@ -6,15 +6,15 @@ use Rattle.heap.proofs.Maps.{held_number}
 use Rattle.heap_tests.proofs.pools.Pools.victim.Goals as goal
 
 pub returns : goal.returns
-returns g c =
+returns g c = λ ok.
     let h = c.args.self.now.closed in
     let before = g.V.Order.before in
-    MatchResult-weaker c.first.result c.first.ensures
+    MatchResult-weaker c.first.result (c.first.ensures ok)
     (λ x f m y e same room. ⊎_elim
     (λ (here : x.live < x.pages). here)
     (λ (full : x.pages ≤ x.live).
     let few = x.live_few in
-    let name : y.number ≡ m = held_number h m y e in
+    let name : y.number ≡ m = held_number (λ b. b.number) before h.nodes.now h.len ok m y e in
     absurd (⊎_elim
     (λ (q : m ≡ x.number).
     let both : Some y ≡ Some x = sym e ∙ ap (held h) q ∙ f.there in
