@@ -21,11 +21,11 @@ pub record Part (whole : Flash → Flash) (h : Flash) (j b : ℕ) : Type 0 where
   pub put : (x : Block) → whole (with_block h j x) ≡ with_block (whole h) b x
 
 -- what the half that has a block shows
-record Found (f g : Flash) (b : ℕ) (half : Half) : Type 0 where
+pub record Found (f g : Flash) (b : ℕ) (half : Half) : Type 0 where
   pub join : joins (geometry_of f) (geometry_of g) ≡ true
   pub is : half ≡ cond (ltb b (length f.blocks)) (First b) (Second (b - length f.blocks))
 
-found : (f g : Flash) (b : ℕ) (half : Half) → Ok half ≡ half_of (geometry_of f) (geometry_of g) b → Found f g b half
+pub found : (f g : Flash) (b : ℕ) (half : Half) → Ok half ≡ half_of (geometry_of f) (geometry_of g) b → Found f g b half
 found f g b half e = go (joins (geometry_of f) (geometry_of g)) refl e
   where
     go : (t : Bool) → joins (geometry_of f) (geometry_of g) ≡ t
@@ -40,13 +40,13 @@ from_second : (n b j : ℕ) → Second j ≡ cond (ltb b n) (First b) (Second (b
 from_second n b j q = grind (arith, nat_tests)
 
 module _ (f g : Flash) (join : joins (geometry_of f) (geometry_of g) ≡ true) where
-  joined_is : both f g ≡ joined f g
+  pub joined_is : both f g ≡ joined f g
   joined_is = ap (λ t. cond t (both f g) no_chip) (sym join)
 
   long : length (joined f g).blocks ≡ length f.blocks + length g.blocks
   long = ap (λ (h : Flash). length h.blocks) (sym joined_is) ∙ length-append f.blocks g.blocks
 
-  part_below : (b : ℕ) → b < length f.blocks → Part (λ z. joined z g) f b b
+  pub part_below : (b : ℕ) → b < length f.blocks → Part (λ z. joined z g) f b b
   part_below b l = record {
     p = ap (λ (h : Flash). h.p) joined_is;
     d = ap (λ (h : Flash). h.d) joined_is;
@@ -60,7 +60,7 @@ module _ (f g : Flash) (join : joins (geometry_of f) (geometry_of g) ≡ true) w
         ∙ ap (λ h. with_block h b x) joined_is;
   }
 
-  part_from : (b : ℕ) → length f.blocks ≤ b → Part (joined f) g (b - length f.blocks) b
+  pub part_from : (b : ℕ) → length f.blocks ≤ b → Part (joined f) g (b - length f.blocks) b
   part_from b l = record {
     p = sym (alike f g join).p ∙ ap (λ (h : Flash). h.p) joined_is;
     d = sym (alike f g join).d ∙ ap (λ (h : Flash). h.d) joined_is;
@@ -87,13 +87,13 @@ second_part f g b j half e is =
     subst (λ k. Part (joined f) g k b) (sym at.1) (part_from f g h.join b at.0)
 
 -- a change that is made only where the call is obeyed
-after_part : {T X Y : Type 0} (whole : X → Y) (a : Result T Refusal) (new old : X) (next : Y) → whole new ≡ next → whole (after a new old) ≡ after a next (whole old)
+pub after_part : {T X Y : Type 0} (whole : X → Y) (a : Result T Refusal) (new old : X) (next : Y) → whole new ≡ next → whole (after a new old) ≡ after a next (whole old)
 after_part whole (Ok x) new old next made = made
 after_part whole (Err e) new old next made = refl
 
 module _ {whole : Flash → Flash} {h : Flash} {j b : ℕ} (m : Part whole h j b) where
   -- an answer that rests on P, D, E and the named block alone, as all of them do
-  answer_part : {T : Type 0} (F : ℕ → ℕ → ℕ → Block → Result T Refusal)
+  pub answer_part : {T : Type 0} (F : ℕ → ℕ → ℕ → Block → Result T Refusal)
       → in_block h j (F h.p h.d h.e (block h j)) ≡ in_block (whole h) b (F (whole h).p (whole h).d (whole h).e (block (whole h) b))
   answer_part F =
       ap (λ t. cond t (F h.p h.d h.e (block h j)) (Err Outside)) m.test
