@@ -58,21 +58,28 @@ module _ (P : State → Type 0) (s : State) where
         cases b l e false q = next
 
   module _ (g : Settings) where
+    -- a block with live pages is moved to a free block, if there is one
+    pub clear_out_by : (b : ℕ) (u : Use) → (NoneIn Free s → P s) → (live_pages s b ≡ [] → P (erase_block g b s)) → ((d : ℕ) → d < length s.uses → use_of s d ≡ Free → P (move g b d u s)) → P (clear_out g b u s)
+    unfolding clear_out
+    clear_out_by b u none dead live = go (live_pages s b) refl
+      where
+        go : (qs : List Page) → live_pages s b ≡ qs → P (elim qs [ [] ↦ erase_block g b s | _ ∷ _ ↦ elim (first_free s) [ None ↦ s | Some d ↦ move g b d.number u s ] ])
+        go [] l = dead l
+        go (_ ∷ _) l = first_in least_erased Free s (λ o. P (elim o [ None ↦ s | Some d ↦ move g b d.number u s ])) none (λ d l f _. live d.number l f)
+
     -- a block that is not free and has live pages is moved to a free block, if there is one
     pub collect_block_by : (b : ℕ) → (use_of s b ≡ Free → P s) → (NoneIn Free s → P s) → (busy (use_of s b) ≡ true → live_pages s b ≡ [] → P (erase_block g b s))
         → ((d : ℕ) → busy (use_of s b) ≡ true → d < length s.uses → use_of s d ≡ Free → P (move g b d (use_of s b) s)) → P (collect_block g b s)
-    unfolding collect_block clear_out
+    unfolding collect_block
     collect_block_by b free none dead live = go (use_of s b) refl
       where
-        clears : (u : Use) → use_of s b ≡ u → busy u ≡ true → (qs : List Page) → live_pages s b ≡ qs → P (elim qs [ [] ↦ erase_block g b s | _ ∷ _ ↦ elim (first_free s) [ None ↦ s | Some d ↦ move g b d.number u s ] ])
-        clears u e h [] l = dead (ap busy e ∙ h) l
-        clears u e h (_ ∷ _) l = first_in least_erased Free s (λ o. P (elim o [ None ↦ s | Some d ↦ move g b d.number u s ])) none
-            (λ d l f _. subst (λ v. P (move g b d.number v s)) e (live d.number (ap busy e ∙ h) l f))
+        clears : (u : Use) → use_of s b ≡ u → busy u ≡ true → P (clear_out g b u s)
+        clears u e h = clear_out_by b u none (dead (ap busy e ∙ h)) (λ d l f. subst (λ v. P (move g b d v s)) e (live d (ap busy e ∙ h) l f))
 
         go : (u : Use) → use_of s b ≡ u → P (elim u [ Free ↦ s | Open ↦ clear_out g b Open s | Closed ↦ clear_out g b Closed s ])
         go Free e = free e
-        go Open e = clears Open e refl (live_pages s b) refl
-        go Closed e = clears Closed e refl (live_pages s b) refl
+        go Open e = clears Open e refl
+        go Closed e = clears Closed e refl
 
     -- one turn of levelling
     pub level_in_by : (turns : ℕ) → (even g s.meter ≡ true → P s) → (even g s.meter ≡ false → s.meter.fcnt ≡ length s.meter.flags → P (end_round s))

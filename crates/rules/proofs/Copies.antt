@@ -91,7 +91,7 @@ pub record Copied (b : ℕ) (t : State) : Type 0 where
   pub valid : Valid t
   pub gone : (u k : ℕ) → Named t u b k → ⊥
 
-program_places : (d : ℕ) (q : Page) (s : State) → length (program_page d q s).places ≡ length s.places
+pub program_places : (d : ℕ) (q : Page) (s : State) → length (program_page d q s).places ≡ length s.places
 unfolding program_page
 program_places d q s = length-set s.places q.tag _
 

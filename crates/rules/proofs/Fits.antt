@@ -16,9 +16,11 @@ between_is low n high h = (grind (arith, nat_tests), grind (arith, nat_tests))
 
 pub record InNumbers (g : Settings) (f : Flash) : Type 0 where
   pub two_blocks : 2 ≤ length f.blocks
+  pub few_blocks : length f.blocks ≤ 256
   pub some_pages : 1 ≤ f.p
   pub few_pages : f.p ≤ 64
   pub threshold : 1 ≤ g.threshold
+  pub some_logical : 1 ≤ g.logical
   pub room : g.logical + f.p < length f.blocks * f.p
   pub tags : g.logical < 65536
 
@@ -31,13 +33,16 @@ pub in_numbers : (g : Settings) (f : Flash) → Fitting g f → InNumbers g f
 in_numbers g f h =
     let l = between_is 1 g.logical ((length f.blocks - 1) * f.p - 1) h.logical in
     let sizes = h.sizes in
-    let few : length f.blocks - 1 ≤ 255 = grind (arith, nat_tests) in
+    let blocks : length f.blocks ≤ 256 = grind (arith, nat_tests) in
+    let few : length f.blocks - 1 ≤ 255 = omega arith in
     let pages : f.p ≤ 64 = grind (arith, nat_tests) in
     record {
       two_blocks = grind (arith, nat_tests);
+      few_blocks = blocks;
       some_pages = grind (arith, nat_tests);
       few_pages = pages;
       threshold = (between_is 1 g.threshold 1000 h.threshold).0;
+      some_logical = l.0;
       room = room_of (length f.blocks) f.p g.logical l;
       tags = omega (arith, l.1, mul-le-mul_right f.p few);
     }

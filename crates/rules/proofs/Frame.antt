@@ -46,6 +46,10 @@ pub moved_use : (P : Use → Type 0) (g : Settings) (b d : ℕ) (u : Use) (s : S
 moved_use P g b d u s x lb ld there here other = subst (λ us. P (get_or us x Free)) (sym (move_uses g b d u s))
     (set_cases P (set s.uses b Free) d x u Free (omega (arith, length-set s.uses b Free)) there (λ ne. set_cases P s.uses b x Free Free lb (here ne) (other ne)))
 
+-- the same of any d
+pub moved_by : (P : Use → Type 0) (g : Settings) (b d : ℕ) (u : Use) (s : State) (x : ℕ) → b < length s.uses → (x ≡ d → P u) → (x ≡ b → P Free) → ((x ≡ b → ⊥) → P (use_of s x)) → P (use_of (move g b d u s) x)
+moved_by P g b d u s x lb there here other = subst (λ us. P (get_or us x Free)) (sym (move_uses g b d u s)) (set_by P (set s.uses b Free) d x u Free there (set_cases P s.uses b x Free Free lb here other))
+
 pub move_long : (g : Settings) (b d : ℕ) (u : Use) (s : State) → length (move g b d u s).uses ≡ length s.uses
 move_long g b d u s = ap length (move_uses g b d u s) ∙ length-set (set s.uses b Free) d u ∙ length-set s.uses b Free
 

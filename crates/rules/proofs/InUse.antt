@@ -23,7 +23,7 @@ busy_not_free s b d h f e = true≢false (sym h ∙ ap (λ x. busy (use_of s x))
 pub busy_of : (u : Use) → (u ≡ Free → ⊥) → busy u ≡ true
 busy_of u h = grind arith
 
-is_use : (u v : Use) → same_use u v ≡ true → v ≡ u
+pub is_use : (u v : Use) → same_use u v ≡ true → v ≡ u
 is_use u v h = grind arith
 
 own_use : (u : Use) → same_use u u ≡ true
@@ -36,7 +36,7 @@ pub same_from_only : {X : Type 0} (y x : X) → Contains (y ∷ []) x → x ≡ 
 same_from_only y x c = let k : c.0 ≡ 0 = omega (arith, c.1) in sym c.2 ∙ ap (λ i. get_or (y ∷ []) i x) k
 
 -- an element that passes is kept
-Contains-filter : {X : Type 0} (p : X → Bool) (xs : List X) (k : ℕ) (x : X) → k < length xs → get_or xs k x ≡ x → p x ≡ true → Contains (filter p xs) x
+pub Contains-filter : {X : Type 0} (p : X → Bool) (xs : List X) (k : ℕ) (x : X) → k < length xs → get_or xs k x ≡ x → p x ≡ true → Contains (filter p xs) x
 Contains-filter p [] k x l e h = absurd (omega arith)
 Contains-filter p (y ∷ ys) zero x l e h =
     cond_both (p y) (y ∷ filter p ys) (filter p ys) (λ zs. Contains zs x) (λ _. (0, omega arith, e)) (λ f. absurd (true≢false (sym h ∙ ap p (sym e) ∙ f)))
@@ -72,7 +72,7 @@ free_rises s = AllPairs-filter (λ a b. a < b) (λ b. same_use Free (use_of s b)
     n = length s.uses
 
 -- what a choice gives is one of those chosen from
-first_of : (P : BlockRecord → Type 0) (r : BlockOrder) (xs : List BlockRecord) → All P xs → IfSome (first r xs) P
+pub first_of : (P : BlockRecord → Type 0) (r : BlockOrder) (xs : List BlockRecord) → All P xs → IfSome (first r xs) P
 first_of P r [] h = tt
 first_of P r (x ∷ xs) h = go (first r xs) (first_of P r xs (All-tail P x xs h))
   where

@@ -32,26 +32,27 @@ module _ (g : Settings) (n m : ℕ) where
   abbrev pub Counted : State → Type 0
   Counted s = Sized g n m s × (ones s.meter.flags ≡ s.meter.fcnt)
 
+  pub marked_erase : (b : ℕ) (s : State) → b < n → Sized g n m s → ones s.meter.flags ≡ s.meter.fcnt → ones (erase_block g b s).meter.flags ≡ (erase_block g b s).meter.fcnt
+  unfolding erase_block count_erase
+  marked_erase b s h z e = ones_set s.meter.flags (b / set_size g) (set_of g n m s z b h) ∙ ap (λ k. cond (get_or s.meter.flags (b / set_size g) true) k (suc k)) e
+
   pub counted_stable : Stable g Counted
   unfolding use_block program_page erase_block count_erase
   counted_stable = record {
     by_put = λ b u s hu q. search rules;
     by_program = λ b p s q. search rules;
-    by_erase = λ b s hb q. (
-      search rules,
-      ones_set s.meter.flags (b / set_size g) (set_of g n m s q.0 b (omega (arith, busy_below s b hb, q.0.tables))) ∙ ap (λ k. cond (get_or s.meter.flags (b / set_size g) true) k (suc k)) q.1,
-    );
+    by_erase = λ b s hb q. (search rules, marked_erase b s (omega (arith, busy_below s b hb, q.0.tables)) q.0 q.1);
   }
 
-  freed_erase : (b : ℕ) (s : State) → b < n → Sized g n m s → Freed g n s → Freed g n (erase_block g b s)
+  pub freed_erase : (b : ℕ) (s : State) → b < n → Sized g n m s → Freed g n s → Freed g n (erase_block g b s)
   unfolding erase_block count_erase
   freed_erase b s h z f x l u = set_cases (λ v. v ≡ true) s.meter.flags (b / set_size g) (x / set_size g) true false (set_of g n m s z b h) (λ _. refl)
       (λ ne. f x l (sym (get_or-set_other s.uses b x Free Free (λ e. ne (ap (λ y. y / set_size g) e))) ∙ u))
 
-  abbrev Kept : State → Type 0
+  abbrev pub Kept : State → Type 0
   Kept s = Counted s × Freed g n s
 
-  kept_stable : Stable g Kept
+  pub kept_stable : Stable g Kept
   unfolding use_block program_page
   kept_stable = record {
     by_put = λ b u s hu q. (counted_stable.by_put b u s hu q.0, λ x l h. q.1 x l (set_free s.uses b x u hu h));
@@ -88,6 +89,7 @@ module _ (g : Settings) (n m : ℕ) where
   pub record Turned (s t : State) : Type 0 where
     pub ready : Ready g n m t
     pub more : t.meter.fcnt ≡ suc s.meter.fcnt
+    pub costs : t.meter.ecnt ≡ s.meter.ecnt + set_size g
 
   pub turns : (s : State) → Ready g n m s → 1 ≤ s.meter.fcnt → s.meter.fcnt < m → Turned s (collect_next g s)
   unfolding collect_next turn_to
@@ -103,10 +105,11 @@ module _ (g : Settings) (n m : ℕ) where
           sized = search rules;
           marked = k.0.1;
           freed = λ _. k.1;
-          some = c.1;
+          some = c.2;
           seeking = omega (arith, next_below (length s.meter.flags) i so.inside, rd.sized.flagged);
         };
-        more = c.0;
+        more = c.1;
+        costs = c.0;
       }
 
   pub round_ready : (s : State) → Ready g n m s → Ready g n m (end_round s)

@@ -14,7 +14,7 @@ use Rattle.rules.specs.Levelling.{turn_to, end_round, level_in}
 use Rattle.rules.proofs.StateFacts.{held}
 use Rattle.rules.proofs.InUse.{busy_not_free}
 use Rattle.rules.proofs.Frame.{copy_uses, copy_blocks}
-use Rattle.rules.proofs.Stable.{settle_level}
+use Rattle.rules.proofs.Stable.{Settled, settle_level}
 use Rattle.rules.proofs.Copies.{at, Named, Valid, copies, names_not}
 
 -- where no page is live from page i on, page i is not, nor one after it
@@ -40,7 +40,7 @@ unfolding use_block
 holding_put b u s h = search rules
 
 module _ (g : Settings) where
-  holding_erase : (b : ℕ) (s : State) → ((u k : ℕ) → Named s u b k → ⊥) → Holding s → Holding (erase_block g b s)
+  pub holding_erase : (b : ℕ) (s : State) → ((u k : ℕ) → Named s u b k → ⊥) → Holding s → Holding (erase_block g b s)
   unfolding erase_block
   holding_erase b s gone h = record {
     valid = λ t x i nm.
@@ -57,10 +57,16 @@ module _ (g : Settings) where
       let c = copies b d s ne (omega (arith, h.long)) h.valid in
       holding_put d u _ (holding_erase b _ c.gone (record { valid = c.valid; long = copy_blocks d qs s ∙ h.long ∙ sym (ap length (copy_uses d qs s)) }))
 
+  pub holding_no_live : (b : ℕ) (s : State) → live_pages s b ≡ [] → Holding s → Holding (erase_block g b s)
+  holding_no_live b s e h = holding_erase b s (λ u k nm. let o = h.valid u b k nm in
+      none_live s.places b (held s b).pages 0 k u e (nm ∙ ap (λ y. Some (at b y)) (omega arith)) o.0 o.1) h
+
+  pub holding_settled : Settled g Holding
+  holding_settled = record {
+    by_move = λ b d s hb l f h. holding_move b d (use_of s b) s (busy_not_free s b d hb f) l h;
+    by_dead = λ b s hb e h. holding_no_live b s e h;
+  }
+
   pub holding_level : (turns : ℕ) (s : State) → Holding s → Holding (level_in turns g s)
   unfolding turn_to end_round
-  holding_level = settle_level g Holding (record {
-    by_move = λ b d s hb l f h. holding_move b d (use_of s b) s (busy_not_free s b d hb f) l h;
-    by_dead = λ b s hb e h. holding_erase b s (λ u k nm. let o = h.valid u b k nm in
-        none_live s.places b (held s b).pages 0 k u e (nm ∙ ap (λ y. Some (at b y)) (omega arith)) o.0 o.1) h;
-  }) (λ i s h. search rules) (λ s e h. search rules)
+  holding_level = settle_level g Holding holding_settled (λ i s h. search rules) (λ s e h. search rules)

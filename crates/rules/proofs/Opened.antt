@@ -14,44 +14,48 @@ use Rattle.rules.proofs.StateFacts.{SomeFree, Ready, NoOpen, NoneIn, OneOpen, Ha
 use Rattle.rules.proofs.AfterSet.{set_by, set_cases}
 use Rattle.rules.proofs.InUse.{busy_below, busy_not_free}
 use Rattle.rules.proofs.Choices.{close_open_by, store_by, clean_by, open_next_by, make_room_by}
-use Rattle.rules.proofs.Frame.{moved_use, move_long, program_blocks}
-use Rattle.rules.proofs.Stable.{settle_level}
+use Rattle.rules.proofs.Frame.{moved_use, moved_by, move_long, program_blocks}
+use Rattle.rules.proofs.Stable.{Settled, settle_level}
 use Rattle.rules.proofs.Copies.{valid_program}
 use Rattle.rules.proofs.Mapped.{Holding, holding_put, holding_move, holding_level}
 use Rattle.rules.proofs.Writes.{closes}
 
 -- an open block after b was freed was open, and is not b
-freed_open : (us : List Use) (b x : ℕ) → b < length us → get_or (set us b Free) x Free ≡ Open → (get_or us x Free ≡ Open) × (x ≡ b → ⊥)
+pub freed_open : (us : List Use) (b x : ℕ) → b < length us → get_or (set us b Free) x Free ≡ Open → (get_or us x Free ≡ Open) × (x ≡ b → ⊥)
 freed_open us b x l = set_cases (λ v. v ≡ Open → (get_or us x Free ≡ Open) × (x ≡ b → ⊥)) us b x Free Free l (λ _ e. absurd (cc)) (λ n e. (e, n))
 
 -- a move of b to d, in the use u, as the open blocks see it
 abbrev pub MovedOpen : State → ℕ → ℕ → Use → ℕ → Type 0
 MovedOpen s b d u x = ((x ≡ d) × (u ≡ Open)) ⊎ ((use_of s x ≡ Open) × (x ≡ b → ⊥))
 
-pub moved_open : (g : Settings) (s : State) (b d x : ℕ) (u : Use) → b < length s.uses → d < length s.uses → use_of (move g b d u s) x ≡ Open → MovedOpen s b d u x
-moved_open g s b d x u lb ld = moved_use (λ v. v ≡ Open → MovedOpen s b d u x) g b d u s x lb ld (λ e k. inl (e, k)) (λ _ _ k. absurd (cc)) (λ _ n k. inr (k, n))
+pub moved_open : (g : Settings) (s : State) (b d x : ℕ) (u : Use) → b < length s.uses → use_of (move g b d u s) x ≡ Open → MovedOpen s b d u x
+moved_open g s b d x u lb = moved_by (λ v. v ≡ Open → MovedOpen s b d u x) g b d u s x lb (λ e k. inl (e, k)) (λ _ k. absurd (cc)) (λ n k. inr (k, n))
 
-one_moved : (g : Settings) (b d : ℕ) (u : Use) (s : State) → b < length s.uses → d < length s.uses → (u ≡ Open → (x : ℕ) → use_of s x ≡ Open → x ≡ b) → OneOpen s → OneOpen (move g b d u s)
-one_moved g b d u s lb ld only o x y hx hy =
-    let mx = moved_open g s b d x u lb ld hx in
-    let my = moved_open g s b d y u lb ld hy in
+one_moved : (g : Settings) (b d : ℕ) (u : Use) (s : State) → b < length s.uses → (u ≡ Open → (x : ℕ) → use_of s x ≡ Open → x ≡ b) → OneOpen s → OneOpen (move g b d u s)
+one_moved g b d u s lb only o x y hx hy =
+    let mx = moved_open g s b d x u lb hx in
+    let my = moved_open g s b d y u lb hy in
     let ox = λ (e : u ≡ Open). only e x in
     let oy = λ (e : u ≡ Open). only e y in
     let both = o x y in
     grind arith
 
-pub one_level : (g : Settings) (turns : ℕ) (s : State) → OneOpen s → OneOpen (level_in turns g s)
-unfolding erase_block turn_to end_round
-one_level g = settle_level g OneOpen (record {
-  by_move = λ b d s hb l f o. one_moved g b d (use_of s b) s (busy_below s b hb) l (λ e x hx. o x b hx e) o;
+pub one_settled : (g : Settings) → Settled g OneOpen
+unfolding erase_block
+one_settled g = record {
+  by_move = λ b d s hb l f o. one_moved g b d (use_of s b) s (busy_below s b hb) (λ e x hx. o x b hx e) o;
   by_dead = λ b s hb e o x y hx hy. o x y (freed_open s.uses b x (busy_below s b hb) hx).0 (freed_open s.uses b y (busy_below s b hb) hy).0;
-}) (λ i s o. o) (λ s e o. o)
+}
+
+pub one_level : (g : Settings) (turns : ℕ) (s : State) → OneOpen s → OneOpen (level_in turns g s)
+unfolding turn_to end_round
+one_level g = settle_level g OneOpen (one_settled g) (λ i s o. o) (λ s e o. o)
 
 pub closes_open : (s : State) → OneOpen s → NoOpen (close_open s)
 closes_open s o = close_open_by NoOpen s (λ none. none) (λ b l e x. unfold use_block in
     set_cases (λ v. v ≡ Open → ⊥) s.uses b x Closed Free l (λ _ h. absurd (cc)) (λ n h. n (o x b h e)))
 
-closed_of : (u : Use) → (u ≡ Free → ⊥) → (u ≡ Open → ⊥) → u ≡ Closed
+pub closed_of : (u : Use) → (u ≡ Free → ⊥) → (u ≡ Open → ⊥) → u ≡ Closed
 closed_of u f o = grind arith
 
 -- where none is open and d alone is free, the other blocks are closed
@@ -74,7 +78,7 @@ opened_move : (g : Settings) (v d : ℕ) (s : State) → use_of s v ≡ Closed �
 opened_move g v d s hv l hd nop h =
     let lv = busy_below s v (ap busy hv) in
     record {
-      one = one_moved g v d Open s lv l (λ _ x hx. absurd (nop x hx)) (λ x y hx hy. absurd (nop x hx));
+      one = one_moved g v d Open s lv (λ _ x hx. absurd (nop x hx)) (λ x y hx hy. absurd (nop x hx));
       has = (d, omega (arith, move_long g v d Open s), moved_use (λ u. u ≡ Open) g v d Open s d lv l (λ _. refl) (λ n _. absurd (n refl)) (λ n _. absurd (n refl)));
       holding = holding_move g v d Open s (busy_not_free s v d (ap busy hv) hd) l h;
     }
@@ -96,7 +100,7 @@ holding_close s h = close_open_by Holding s (λ _. h) (λ b l e. holding_put b C
 pub close_long : (s : State) → length (close_open s).uses ≡ length s.uses
 close_long s = close_open_by (λ t. length t.uses ≡ length s.uses) s (λ _. refl) (λ b l e. unfold use_block in length-set s.uses b Closed)
 
-room_opened : (g : Settings) (r : BlockOrder) (s : State) → 2 ≤ length s.uses → SomeFree (close_open s) → OneOpen s → Holding s → Opened (make_room g r s)
+pub room_opened : (g : Settings) (r : BlockOrder) (s : State) → 2 ≤ length s.uses → SomeFree (close_open s) → OneOpen s → Holding s → Opened (make_room g r s)
 room_opened g r s two sf o h =
     let t = close_open s in
     let nop = closes_open s o in

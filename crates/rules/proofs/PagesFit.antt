@@ -17,7 +17,7 @@ use Rattle.rules.proofs.StateFacts.{held, Busy}
 use Rattle.rules.proofs.AfterSet.{set_by, set_cases, set_free}
 use Rattle.rules.proofs.InUse.{busy_below, busy_not_free}
 use Rattle.rules.proofs.Frame.{moved_use, move_long}
-use Rattle.rules.proofs.Stable.{settle_level}
+use Rattle.rules.proofs.Stable.{Settled, settle_level}
 use Rattle.rules.proofs.Copies.{pages_same, pages_other}
 use Rattle.rules.proofs.Runs.{Runs, runs_push}
 
@@ -97,7 +97,7 @@ module _ (was : Flash) where
     unfolding erase_block
     erased_blank b s x l = set_cases (λ (c : Block). length c.pages ≡ 0) s.chip.blocks b x _ no_block l (λ _. refl)
 
-    fit_dead : (b : ℕ) (s : State) → Busy s b → PagesFit was s → PagesFit was (erase_block g b s)
+    pub fit_dead : (b : ℕ) (s : State) → Busy s b → PagesFit was s → PagesFit was (erase_block g b s)
     fit_dead b s hb h = record {
       chips = unfold erase_block in (length-set s.chip.blocks b _ ∙ h.chips);
       tables = unfold erase_block in (length-set s.uses b Free ∙ h.tables);
@@ -142,8 +142,11 @@ module _ (was : Flash) where
             (λ _ e _ n. absurd (n e))
             (λ n _ f _. ap length (fl.elsewhere x n) ∙ h.blanks x f)
 
+    pub fit_settled : Settled g (PagesFit was)
+    fit_settled = record { by_move = λ b c s hb l f h. (fit_move b c (use_of s b) s hb hb l f h).0; by_dead = λ b s hb e h. fit_dead b s hb h }
+
     pub fit_level : (turns : ℕ) (s : State) → PagesFit was s → PagesFit was (level_in turns g s)
     unfolding turn_to end_round
-    fit_level = settle_level g (PagesFit was) (record { by_move = λ b c s hb l f h. (fit_move b c (use_of s b) s hb hb l f h).0; by_dead = λ b s hb e h. fit_dead b s hb h })
+    fit_level = settle_level g (PagesFit was) fit_settled
         (λ i s h. search rules)
         (λ s e h. search rules)

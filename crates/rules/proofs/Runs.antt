@@ -31,7 +31,7 @@ pub record Shaped (z f : Flash) : Type 0 where
   pub d_is : f.d ≡ z.d
   pub e_is : f.e ≡ z.e
 
-apply_shaped : (z : Flash) (o : Op) (f : Flash) → Shaped z f → Shaped z (apply o f)
+pub apply_shaped : (z : Flash) (o : Op) (f : Flash) → Shaped z f → Shaped z (apply o f)
 apply_shaped z (program b q) f s = search rules
 apply_shaped z (erase b) f s = search rules
 
@@ -74,12 +74,15 @@ module _ (z : Flash) (was : ℕ → ℕ) (fresh : (b : ℕ) → b < length z.blo
       ∙ runs_obeyed os (apply o f) h t r.1 (λ b. omega (arith, lo b, more b)) hi
 
 -- operations leave P, D, E and the number of blocks
-runs_shaped : (z : Flash) (os : List Op) (f h : Flash) → Runs z os f h → Shaped z f → Shaped z h
-runs_shaped z [] f h r s = subst (Shaped z) r s
-runs_shaped z (o ∷ os) f h r s = runs_shaped z os (apply o f) h r.1 (apply_shaped z o f s)
+pub runs_shaped : (z y : Flash) (os : List Op) (f h : Flash) → Runs z os f h → Shaped y f → Shaped y h
+runs_shaped z y [] f h r s = subst (Shaped y) r s
+runs_shaped z y (o ∷ os) f h r s = runs_shaped z y os (apply o f) h r.1 (apply_shaped y o f s)
 
 pub own_shape : (f : Flash) → Shaped f f
 own_shape f = search rules
 
+pub runs_p : (z : Flash) (os : List Op) (f h : Flash) → Runs z os f h → f.p ≡ h.p
+runs_p z os f h r = sym (runs_shaped z f os f h r (own_shape f)).p_is
+
 pub shape : (os : List Op) (f h : Flash) → Runs f os f h → Shaped f h
-shape os f h r = runs_shaped f os f h r (own_shape f)
+shape os f h r = runs_shaped f f os f h r (own_shape f)

@@ -51,7 +51,7 @@ module _ (g : Settings) (n m : ℕ) where
   unfolding count_erase
   moves v d s rd hv ld hd only =
       let t = move g v d Open s in
-      let af = after_move g v d Open s refl hv ld hd in
+      let af = after_move g v d Open s refl hv hd in
       let c = keeps_move g (Counted g n m) (counted_stable g n m) v d Open s refl hv (rd.sized, rd.marked) in
       let vm = set_of g n m s rd.sized v (omega (arith, busy_below s v hv, rd.sized.tables)) in
       record {
@@ -74,17 +74,18 @@ module _ (g : Settings) (n m : ℕ) where
       (λ d l f only. clean_by (Roomed s.meter) s g r d (λ _. still) (λ v lv e _. moves v.number d s rd (ap busy e) l f only))
       (λ d c ld fd lc fc ne. let p = like_put d Open s refl rd c lc fc ne in record { ready = p.0; meter = inl p.1 })
 
-  rooms : (r : BlockOrder) (s : State) → Ready g n m s → Roomed s.meter (make_room g r s)
+  pub rooms : (r : BlockOrder) (s : State) → Ready g n m s → Roomed s.meter (make_room g r s)
   rooms r s rd =
       let c = closes s rd in
       make_room_by (Roomed s.meter) s g r (λ _ _ _ _. record { ready = rd; meter = inl refl })
       (subst (λ k. Roomed k (open_next g r (blocks_in Free (close_open s)) (close_open s))) c.1 (opens r (close_open s) c.0))
 
-  stores : (before : Meter) (q : Page) (s : State) → Roomed before s → Roomed before (store q s)
-  stores before q s ro =
-      let rd = ro.ready in
-      store_by (Roomed before) s q (λ _. ro) (λ b l e. unfold program_page in search rules)
+  pub stores : (q : Page) (s : State) → Ready g n m s → Like s (store q s)
+  stores q s rd = store_by (Like s) s q (λ _. (rd, refl)) (λ b l e. unfold program_page in search rules)
 
   -- a write up to its levelling
   pub writes : (r : BlockOrder) (q : Page) (s : State) → Ready g n m s → Roomed s.meter (store q (make_room g r s))
-  writes r q s rd = stores s.meter q (make_room g r s) (rooms r s rd)
+  writes r q s rd =
+      let ro = rooms r s rd in
+      let st = stores q (make_room g r s) ro.ready in
+      record { ready = st.0; meter = subst (λ (k : Meter). (k ≡ s.meter) ⊎ ((i : ℕ) × (i < m) × (k ≡ count_erase i s.meter))) (sym st.1) ro.meter }

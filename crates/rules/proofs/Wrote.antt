@@ -31,16 +31,16 @@ use Rattle.rules.proofs.Fits.{InNumbers, in_numbers, not_worn}
 
 -- what a step's proofs ask of the beginning of a call
 module _ (x : Tables) (f : Flash) (k : WellFormed x f) where
-  begin_ready : Ready x.settings (length f.blocks) (length x.meter.flags) (begin x f)
+  pub begin_ready : Ready x.settings (length f.blocks) (length x.meter.flags) (begin x f)
   begin_ready = search rules
 
-  begin_booked : Booked x.settings.logical (length f.blocks) (begin x f)
+  pub begin_booked : Booked x.settings.logical (length f.blocks) (begin x f)
   begin_booked = search rules
 
-  begin_holding : Holding (begin x f)
+  pub begin_holding : Holding (begin x f)
   begin_holding = search rules
 
-  begin_fits : ChipFits f → PagesFit f (begin x f)
+  pub begin_fits : ChipFits f → PagesFit f (begin x f)
   begin_fits c = record {
     chips = refl;
     tables = k.uses_each;
@@ -101,7 +101,7 @@ module _ (r : BlockOrder) (x : Tables) (f : Flash) (k : WellFormed x f) (t : ℕ
         record {
           ready = ended.ready;
           between = ended.between;
-          fit = fit_write x.settings f num r vo (suc m) q (begin x f)
+          fit = fit_write x.settings f num.some_pages num.few_pages num.room r vo (suc m) q (begin x f)
               (record { tagged = omega (arith, tl, num.tags); sized = bl }) k.places_each k.one_open (begin_fits x f k c);
           one = held.0;
           holding = held.1;
@@ -167,4 +167,5 @@ pub cleaning : (r : BlockOrder) → VictimOrder r → (x : Tables) (f : Flash) �
     → (v : BlockRecord) × (first r (records Closed (close_open (begin x f))) ≡ Some v) × (length (live_pages (close_open (begin x f)) v.number) < f.p)
 cleaning r vo x f c k d e =
     let s = begin x f in
-    gains x.settings f (in_numbers x.settings f k.fitting) r vo (close_open s) (fit_close f s (begin_fits x f k c)) (close_places s ∙ k.places_each) (closes_open s k.one_open) d e
+    let num = in_numbers x.settings f k.fitting in
+    gains x.settings f num.some_pages num.few_pages num.room r vo (close_open s) (fit_close f s (begin_fits x f k c)) (close_places s ∙ k.places_each) (closes_open s k.one_open) num.two_blocks d e
