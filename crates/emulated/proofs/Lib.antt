@@ -1,3 +1,4 @@
 pub mod Lines
+pub mod Kept
 pub mod Parts
 pub mod Changes

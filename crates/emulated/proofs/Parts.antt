@@ -4,11 +4,15 @@ use borrow.Rule.Slice.PartMut.{put_mid}
 use lib.Seq.{paste}
 use Rattle.std.proofs.lemmas.List.{drop-take}
 use Rattle.std.proofs.lemmas.Slice.{put_mid-paste, take-put_mid_below, drop-put_mid, between-put_mid}
+use Rattle.std.proofs.lemmas.List.Edits.{length-paste}
 use Rattle.std.proofs.lemmas.Bool.{cases_lt}
 
 module _ (bytes xs : List ℕ) (d r : ℕ) (room : r * d + d ≤ length bytes) (long : length xs ≡ d) where
   put_is : paste bytes (r * d) xs d ≡ put_mid (r * d) d bytes xs
   put_is = sym (put_mid-paste (r * d) d bytes xs xs d refl refl (sym long))
+
+  pub put_long : length (paste bytes (r * d) xs d) ≡ length bytes
+  put_long = let b : d ≤ length xs = omega arith in length-paste bytes (r * d) xs d room b
 
   pub put_here : take d (drop (r * d) (paste bytes (r * d) xs d)) ≡ xs
   put_here =

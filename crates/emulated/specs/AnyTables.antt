@@ -1,4 +1,4 @@
--- The chip of any tables and any memory: a count past E reads as E, a number of written pages past P as P, and a tag as its low 16 bits.
+-- The chip of any tables and any memory, which is what an `Emulated` means: a count past E reads as E, a number of written pages past P as P, and a tag as its low 16 bits.
 -- It is well formed, and tables that keep their bounds are read as they are (`held_as_any`). These are proofs, with nothing in them to believe.
 use Rattle.std.specs.Prelude.{◌≡◌, ℕ, ◌*◌, ◌%◌, ◌<◌, ◌≤◌, min, List, map, take, drop, length, slice_index, slice_index_or}
 use Rattle.std.specs.List.{range_with_len}

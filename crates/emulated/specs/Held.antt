@@ -2,8 +2,8 @@
 --
 --   lines         for each block, how often it was erased and how many of its pages are written
 --   tags, bytes   the lent memory: page i of block b has the tag at b × P + i, and the D bytes from (b × P + i) × D
-use Rattle.std.specs.Prelude.{ℕ, ◌+◌, ◌*◌, ◌≤◌, cond, ◌&&◌, List, map, take, drop, length, nat_le, slice_index, slice_index_or}
-use Rattle.std.specs.List.{range_with_len}
+use Rattle.std.specs.Prelude.{ℕ, ◌+◌, ◌*◌, ◌≡◌, ◌<◌, ◌≤◌, cond, ◌&&◌, List, map, take, drop, length, nat_le, slice_index, slice_index_or}
+use Rattle.std.specs.List.{All, range_with_len}
 use Rattle.flash.specs.declared.Geometry.{Geometry}
 use Rattle.flash.specs.Limits.{within}
 use Rattle.flash.specs.Meaning.{Flash, Block, Page, page_of, no_geometry}
@@ -22,6 +22,20 @@ pub record Room (g : Geometry) (tags bytes : ℕ) : Type 0 where
 -- What a line of the tables may have.
 abbrev pub LineFits : Geometry → Line → Type 0
 LineFits g l = (l.erases ≤ g.rated) × (l.written ≤ g.pages)
+
+-- A geometry, a table of lines and the lent memory.
+pub record Tables : Type 0 where
+  pub geometry : Geometry
+  pub lines : List Line
+  pub tags : List ℕ
+  pub bytes : List ℕ
+
+-- What every chip keeps of them: its geometry is one that is served, each line fits, and the tags have 16 bits.
+pub record Kept (t : Tables) : Type 0 where
+  pub served_is : served t.geometry (length t.tags) (length t.bytes) ≡ t.geometry
+  pub long : length t.lines ≡ 256
+  pub lines_fit : All (LineFits t.geometry) t.lines
+  pub tags_fit : All (λ tag. tag < 65536) t.tags
 
 -- What stands past the end of the tables; no call looks there.
 abbrev pub no_line : Line

@@ -1,7 +1,7 @@
 -- The chip of tables and memory that suffice is well formed. These are proofs, with nothing in them to believe.
 use Rattle.std.specs.Prelude.{◌≡◌, ℕ, suc, ◌+◌, ◌*◌, ◌<◌, ◌≤◌, Bool, true, false, cond, ◌&&◌, List, length, nat_le, slice_index_or, refl}
 use Rattle.std.specs.List.{All}
-use Rattle.std.proofs.Common.{sym, subst, inl, inr, arith, mul-le-mul_right, suc-mul, leb-true, length-take, length-drop}
+use Rattle.std.proofs.Common.{◌⊎◌, sym, subst, ap, inl, inr, arith, mul-le-mul_right, suc-mul, leb-true, length-take, length-drop}
 use Rattle.std.proofs.lemmas.List.FromFn.{length-map-range_with_len, get_or-map-range_with_len}
 use Rattle.std.proofs.lemmas.Bool.{and_parts, cases_lt}
 use Rattle.std.proofs.lemmas.List.{get_or_past}
@@ -29,6 +29,22 @@ served_room g tags bytes = go (within g && (nat_le (g.blocks * g.pages) tags && 
         let blocks = and_parts (between 2 g.blocks 256) _ parts.0 in
         let most = and_parts (nat_le 2 g.blocks) _ blocks.0 in
         record { few = leb-true _ _ most.1; tagroom = leb-true _ _ memory.0; room = leb-true _ _ memory.1 }
+
+-- what is served is served again
+pub served_again : (g : Geometry) (tags bytes : ℕ) → served (served g tags bytes) tags bytes ≡ served g tags bytes
+served_again g tags bytes = go (within g && (nat_le (g.blocks * g.pages) tags && nat_le ((g.blocks * g.pages) * g.size) bytes)) refl
+  where
+    go : (t : Bool) → (within g && (nat_le (g.blocks * g.pages) tags && nat_le ((g.blocks * g.pages) * g.size) bytes)) ≡ t → served (cond t g no_geometry) tags bytes ≡ cond t g no_geometry
+    go false q = refl
+    go true q = ap (λ t. cond t g no_geometry) q
+
+-- N, P, D and E are within the limits or all 0
+pub served_within : (g : Geometry) (tags bytes : ℕ) → (within (served g tags bytes) ≡ true) ⊎ (served g tags bytes ≡ no_geometry)
+served_within g tags bytes = go (within g && (nat_le (g.blocks * g.pages) tags && nat_le ((g.blocks * g.pages) * g.size) bytes)) refl
+  where
+    go : (t : Bool) → (within g && (nat_le (g.blocks * g.pages) tags && nat_le ((g.blocks * g.pages) * g.size) bytes)) ≡ t → (within (cond t g no_geometry) ≡ true) ⊎ (cond t g no_geometry ≡ no_geometry)
+    go false q = inr refl
+    go true q = inl (and_parts (within g) _ q).0
 
 -- past the end of the tables there is a line that fits as well
 pub line_fits : (g : Geometry) (lines : List Line) → All (LineFits g) lines → (b : ℕ) → LineFits g (line lines b)

@@ -2,15 +2,17 @@
 
 #![tactic(auto)]
 
-ghost use Rattle.std.specs.Prelude.{◌≡◌, ◌+◌, ◌*◌, ◌<◌, ◌≤◌, length, Ok, IfOk, OnOk};
+ghost use Rattle.std.specs.Prelude.{◌≡◌, ◌+◌, ◌-◌, ◌*◌, ◌^◌, ◌<◌, ◌≤◌, length, slice_set, Ok, IfOk, OnOk};
 ghost use Rattle.std.specs.List.{All};
 ghost use Rattle.std.proofs.Math.Seq.{paste};
 ghost use Rattle.flash.specs.declared.Refusal.TheVariants.{OutOfTurn};
 ghost use Rattle.flash.specs.Meaning.{ByMeaning, blank, block as held_block, page as held_page};
 ghost use Rattle.flash.specs.Calls.{below, in_block, in_page};
-ghost use Rattle.emulated.specs.Held.{served, Room, place, page_in, line_of, LineFits};
+ghost use Rattle.emulated.specs.Held.{served, Room, Kept, line, place, page_in, line_of};
+ghost use Rattle.emulated.specs.Meaning.{emulated, emulated_laws};
 
 use flash::{Chip, Geometry, MAX_BLOCKS, Refusal};
+use std::marker::Model;
 
 /// A line of the tables for each block that a chip may have.
 const LINES: usize = MAX_BLOCKS as usize; // a constant calls no `From`
@@ -28,22 +30,27 @@ const BLANK: Line = Line {
     written: 0,
 };
 
-/// A chip in N × P × D bytes and N × P tags. What its maker measures holds as long as the chip does.
+/// A chip in N × P × D bytes and N × P tags. What its maker measures is its invariant. Ghost fields would state it as well, but code
+/// with an array of chips gets no proof where they stand beside the `&mut`s.
 #[derive(Drop)]
 pub struct Emulated<'a> {
     geometry: Geometry,
     lines: [Line; LINES],
     tags: &'a mut [u16],
     bytes: &'a mut [u8],
-    ghost room: { Room geometry (length tags.now) (length bytes.now) },
-    ghost lines_fit: { All (LineFits geometry) lines },
-    ghost tags_fit: { All (λ tag. tag < 65536) tags.now },
+}
+
+impl<'a> Model for Emulated<'a> {
+    ghost use Rattle.emulated.specs.Held.{Tables, Kept};
+
+    ghost Value = { Tables };
+
+    ghost view = { λ s. record { geometry = s.geometry; lines = s.lines; tags = s.tags.now; bytes = s.bytes.now } };
+
+    ghost invariant = { λ s. Kept (record { geometry = s.geometry; lines = s.lines; tags = s.tags.now; bytes = s.bytes.now }) };
 }
 
 impl<'a> Emulated<'a> {
-    // here and not at the head of the file, whose lines the struct's ghost fields rest on: this definition is over the struct
-    ghost use Rattle.emulated.specs.Meaning.{emulated};
-
     /// A blank chip, every count 0. Its N, P, D and E are all 0 where the geometry is outside the limits or the
     /// memory is too short.
     pub fn new(geometry: Geometry, tags: &'a mut [u16], bytes: &'a mut [u8]) -> Emulated<'a>
@@ -59,6 +66,7 @@ impl<'a> Emulated<'a> {
 
     /// The line of a block.
     fn line(&self, block: u16) -> Result<Line, Refusal>
+        ensures kept { Kept self.now }
         ensures answer { result ≡ in_block (emulated self.now) block (Ok (line_of (held_block (emulated self.now) block))) }
         ensures inside { OnOk result (block < self.now.geometry.blocks) }
     {
@@ -71,10 +79,11 @@ impl<'a> Emulated<'a> {
 
     /// The line of a block, and the place of one of its pages in the memory.
     fn locate(&self, block: u16, page: u32) -> Result<(Line, usize), Refusal>
+        ensures kept { Kept self.now }
         ensures answer { result ≡ in_page (emulated self.now) block page (Ok (line_of (held_block (emulated self.now) block), place self.now.geometry.pages block page)) }
         ensures inside { OnOk result ((block < self.now.geometry.blocks) × (page < self.now.geometry.pages)) }
-        ensures tag { IfOk result (λ found. found.1 < length self.now.tags.now) }
-        ensures bytes { IfOk result (λ found. found.1 * self.now.geometry.size + self.now.geometry.size ≤ length self.now.bytes.now) }
+        ensures tag { IfOk result (λ found. found.1 < length self.now.tags) }
+        ensures bytes { IfOk result (λ found. found.1 * self.now.geometry.size + self.now.geometry.size ≤ length self.now.bytes) }
     {
         let line = self.line(block)?;
         if page >= self.geometry.pages {
@@ -88,9 +97,9 @@ impl<'a> Emulated<'a> {
     /// The place of a written page.
     fn written_place(&self, block: u16, page: u32) -> Result<usize, Refusal>
         ensures answer { result ≡ in_page (emulated self.now) block page (below page (length (held_block (emulated self.now) block).pages) OutOfTurn (Ok (place self.now.geometry.pages block page))) }
-        ensures page { IfOk result (λ at. held_page (emulated self.now) block page ≡ page_in self.now.geometry.size self.now.tags.now self.now.bytes.now at) }
-        ensures tag { IfOk result (λ at. at < length self.now.tags.now) }
-        ensures bytes { IfOk result (λ at. at * self.now.geometry.size + self.now.geometry.size ≤ length self.now.bytes.now) }
+        ensures page { IfOk result (λ at. held_page (emulated self.now) block page ≡ page_in self.now.geometry.size self.now.tags self.now.bytes at) }
+        ensures tag { IfOk result (λ at. at < length self.now.tags) }
+        ensures bytes { IfOk result (λ at. at * self.now.geometry.size + self.now.geometry.size ≤ length self.now.bytes) }
     {
         let (line, place) = self.locate(block, page)?;
         if page < line.written {
@@ -98,6 +107,38 @@ impl<'a> Emulated<'a> {
         } else {
             Err(Refusal::OutOfTurn)
         }
+    }
+
+    /// Writes a page's tag and bytes at its place, and counts it. The rest of the lent memory stays as it is.
+    fn put(&mut self, block: u16, place: usize, tag: u16, bytes: &[u8], written: u32)
+        requires block { block < 256 }
+        requires written { written ≤ self.old.geometry.pages }
+        requires tag { place < length self.old.tags }
+        requires bytes { place * length bytes.now + length bytes.now ≤ length self.old.bytes }
+        ensures geometry { self.new.geometry ≡ self.old.geometry }
+        ensures lines { self.new.lines ≡ slice_set self.old.lines block (record { erases = (line self.old.lines block).erases; written = written }) }
+        ensures tags { self.new.tags ≡ slice_set self.old.tags place tag }
+        ensures bytes { self.new.bytes ≡ paste self.old.bytes (place * length bytes.now) bytes.now (length bytes.now) }
+    {
+        store(self.bytes, place * bytes.len(), bytes);
+        self.tags[place] = tag;
+        self.lines[usize::from(block)].written = written;
+    }
+
+    /// Empties a block and counts an erase more. The lent memory stays as it is, also where the chip no longer shows it.
+    fn wipe(&mut self, block: u16, erases: u32)
+        requires block { block < 256 }
+        requires erases { erases < 2 ^ 32 - 1 }
+        requires rated { erases < self.old.geometry.rated }
+        ensures geometry { self.new.geometry ≡ self.old.geometry }
+        ensures lines { self.new.lines ≡ slice_set self.old.lines block (record { erases = erases + 1; written = 0 }) }
+        ensures tags { self.new.tags ≡ self.old.tags }
+        ensures bytes { self.new.bytes ≡ self.old.bytes }
+    {
+        self.lines[usize::from(block)] = Line {
+            erases: erases + 1,
+            written: 0,
+        };
     }
 }
 
@@ -127,8 +168,6 @@ fn store(memory: &mut [u8], start: usize, bytes: &[u8])
 }
 
 impl Chip for Emulated<'_> {
-    ghost use Rattle.emulated.specs.Meaning.{emulated, emulated_laws};
-
     ghost meaning = { emulated };
 
     ghost ran = { ByMeaning emulated };
@@ -170,9 +209,7 @@ impl Chip for Emulated<'_> {
         if bytes.len() != self.geometry.size {
             return Err(Refusal::WrongLength);
         }
-        self.tags[place] = tag;
-        store(self.bytes, place * bytes.len(), bytes);
-        self.lines[usize::from(block)].written = page + 1;
+        self.put(block, place, tag, bytes, page + 1);
         Ok(())
     }
 
@@ -181,10 +218,7 @@ impl Chip for Emulated<'_> {
         if line.erases >= self.geometry.rated {
             return Err(Refusal::WornOut);
         }
-        self.lines[usize::from(block)] = Line {
-            erases: line.erases + 1,
-            written: 0,
-        };
+        self.wipe(block, line.erases);
         Ok(())
     }
 }
