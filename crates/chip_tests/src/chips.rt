@@ -1,4 +1,5 @@
 //! The emulated chip and the tools over it: answers, refusals, limits and memory.
+use crate::lent::{page_in, page_of, pages_of};
 use crate::steps::{Call, Outcome, Told, run};
 use emulated::Emulated;
 use flash::{Chip, Geometry, Refusal};
@@ -220,6 +221,42 @@ fn moves(rt: HostRuntime) {
         (Call::Written(1), Ok(Told::Is(0))),
     ];
     on_a_chip(&rt, &table, 6, 24);
+}
+
+#[test]
+fn two_chips_in_an_array(rt: HostRuntime) {
+    let mut first_tags = [0u16; 4];
+    let mut first_bytes = [0u8; 8];
+    let mut second_tags = [0u16; 6];
+    let mut second_bytes = [0u8; 12];
+    let three = Geometry { blocks: 3, ..SMALL };
+    let mut chips = [
+        Emulated::new(SMALL, &mut first_tags, &mut first_bytes),
+        Emulated::new(three, &mut second_tags, &mut second_bytes),
+    ];
+    assert_eq!(rt; chips[0].erase(1), Ok(()));
+    assert_eq!(rt; chips[1].erase(2), Ok(()));
+    assert_eq!(rt; chips[1].erase(2), Ok(()));
+    assert_eq!(rt; chips[0].erase(2), Err(Refusal::Outside));
+    assert_eq!(rt; chips[0].count(1), Ok(1));
+    assert_eq!(rt; chips[0].count(0), Ok(0));
+    assert_eq!(rt; chips[1].count(2), Ok(2));
+    assert_eq!(rt; chips[1].count(1), Ok(0));
+}
+
+#[test]
+fn lent_chips(rt: HostRuntime) {
+    let mut tags = [0u16; 4];
+    let mut bytes = [0u8; 8];
+    let mut chip = Emulated::new(SMALL, &mut tags, &mut bytes);
+    assert_eq!(rt; chip.program(1, 0, 7, &[5, 6]), Ok(()));
+    assert_eq!(rt; page_of(&chip), 2);
+    assert_eq!(rt; pages_of(&chip), 2);
+    let page = page_in(&chip, 1, 0).unwrap_or([9; 512]);
+    assert_eq!(rt; page[0], 5);
+    assert_eq!(rt; page[1], 6);
+    assert_eq!(rt; page[2], 0);
+    assert!(rt; page_in(&chip, 0, 0) == Err(Refusal::OutOfTurn));
 }
 
 /// Two blocks of two pages of two bytes, rated for nine erases.

@@ -4,6 +4,7 @@
 
 #[cfg(test)]
 mod chips;
+pub mod lent;
 #[cfg(test)]
 mod pairs;
 #[cfg(test)]
