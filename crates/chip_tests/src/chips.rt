@@ -1,5 +1,5 @@
 //! The emulated chip and the tools over it: answers, refusals, limits and memory.
-use crate::lent::{page_in, page_of, pages_of};
+use crate::lent::{page_of, pages_of};
 use crate::steps::{Call, Outcome, Told, run};
 use emulated::Emulated;
 use flash::{Chip, Geometry, Refusal};
@@ -242,6 +242,13 @@ fn two_chips_in_an_array(rt: HostRuntime) {
     assert_eq!(rt; chips[0].count(0), Ok(0));
     assert_eq!(rt; chips[1].count(2), Ok(2));
     assert_eq!(rt; chips[1].count(1), Ok(0));
+}
+
+/// A page, in a buffer that holds any page that is served.
+fn page_in(chip: &Emulated<'_>, block: u16, page: u32) -> Result<[u8; 512], Refusal> {
+    let mut buf = [0u8; 512];
+    chip.read(block, page, &mut buf[..page_of(chip)])?;
+    Ok(buf)
 }
 
 #[test]

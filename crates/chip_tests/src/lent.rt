@@ -1,26 +1,22 @@
 //! Callers that are lent an emulated chip, whoever made it: the limits hold of every one.
-ghost use Rattle.std.specs.Prelude.{◌≤◌};
+ghost use Rattle.std.specs.Prelude.{◌≡◌, ◌≤◌};
+ghost use Rattle.emulated.specs.Meaning.{emulated};
 
 use emulated::Emulated;
-use flash::{Chip, Refusal};
+use flash::Chip;
 
 /// The bytes of a page.
 pub fn page_of(chip: &Emulated<'_>) -> usize
-    ensures { result ≤ 512 }
+    ensures size { result ≡ (emulated chip.now).d }
+    ensures few { result ≤ 512 }
 {
     chip.page_size()
 }
 
 /// The pages of a block.
 pub fn pages_of(chip: &Emulated<'_>) -> u32
-    ensures { result ≤ 64 }
+    ensures pages { result ≡ (emulated chip.now).p }
+    ensures few { result ≤ 64 }
 {
     chip.pages()
-}
-
-/// A page, in a buffer that holds any page that is served.
-pub fn page_in(chip: &Emulated<'_>, block: u16, page: u32) -> Result<[u8; 512], Refusal> {
-    let mut buf = [0u8; 512];
-    chip.read(block, page, &mut buf[..page_of(chip)])?;
-    Ok(buf)
 }
