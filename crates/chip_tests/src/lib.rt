@@ -4,6 +4,8 @@
 
 #[cfg(test)]
 mod chips;
+#[cfg(test)]
+mod known;
 pub mod lent;
 #[cfg(test)]
 mod pairs;

@@ -8,7 +8,7 @@ ghost use Rattle.std.proofs.Math.Seq.{paste};
 ghost use Rattle.flash.specs.declared.Refusal.TheVariants.{OutOfTurn};
 ghost use Rattle.flash.specs.Meaning.{ByMeaning, blank, block as held_block, page as held_page};
 ghost use Rattle.flash.specs.Calls.{below, in_block, in_page};
-ghost use Rattle.emulated.specs.Held.{served, Room, Kept, line, place, page_in, line_of};
+ghost use Rattle.emulated.specs.Held.{served, Room, LineFits, Kept, line, place, page_in, line_of, held};
 ghost use Rattle.emulated.specs.Meaning.{emulated, emulated_laws};
 
 use flash::{Chip, Geometry, MAX_BLOCKS, Refusal};
@@ -62,6 +62,18 @@ impl<'a> Emulated<'a> {
             tags,
             bytes,
         }
+    }
+
+    /// Does nothing. A model's invariant is closed to callers: whoever is lent a chip learns by this call what every chip keeps of its
+    /// tables and its memory, and that it is read as they are.
+    pub fn kept(&self)
+        ensures kept { Kept self.now }
+        ensures room { Room self.now.geometry (length self.now.tags) (length self.now.bytes) }
+        ensures lines_fit { All (LineFits self.now.geometry) self.now.lines }
+        ensures tags_fit { All (λ tag. tag < 65536) self.now.tags }
+        ensures meaning { emulated self.now ≡ held self.now.geometry self.now.lines self.now.tags self.now.bytes }
+    {
+        let _ = &self.geometry; // opens the chip
     }
 
     /// The line of a block.
