@@ -1,4 +1,5 @@
 //! Pairs, and pairs of pairs.
+use crate::lent::{first_has_room, second_tags_fit};
 use crate::steps::{Call, Outcome, Told, run};
 use emulated::Emulated;
 use flash::{Chip, Geometry, Refusal};
@@ -127,4 +128,24 @@ fn a_pair_of_a_pair(rt: HostRuntime) {
     let mut all = Pair::new(Pair::new(first, second), third);
     assert_eq!(rt; all.blocks(), 7);
     run(&rt, &mut all, &table);
+}
+
+#[test]
+fn the_chips_of_a_pair(rt: HostRuntime) {
+    let mut tags = [0u16; 4];
+    let mut bytes = [0u8; 4];
+    let mut more_tags = [0u16; 6];
+    let mut more_bytes = [0u8; 6];
+    let first = Emulated::new(TINY, &mut tags, &mut bytes);
+    let second = Emulated::new(LARGER, &mut more_tags, &mut more_bytes);
+    let mut both = Pair::new(first, second);
+    assert_eq!(rt; both.erase(1), Ok(()));
+    assert_eq!(rt; both.program(3, 0, 65535, &[8]), Ok(()));
+    first_has_room(&both);
+    second_tags_fit(&both);
+    assert_eq!(rt; both.first().blocks(), 2);
+    assert_eq!(rt; both.first().count(1), Ok(1));
+    assert_eq!(rt; both.second().blocks(), 3);
+    assert_eq!(rt; both.second().count(1), Ok(0));
+    assert_eq!(rt; both.second().tag(1, 0), Ok(65535));
 }

@@ -54,6 +54,22 @@ impl<A: Chip, B: Chip> Pair<A, B> {
     }
 }
 
+impl<A, B> Pair<A, B> {
+    /// The first chip, to look at: whatever its own type tells whoever is lent it can be asked of it here.
+    pub fn first(&self) -> &A
+        ensures { result.now ≡ self.now.first }
+    {
+        &self.first
+    }
+
+    /// The second chip, to look at.
+    pub fn second(&self) -> &B
+        ensures { result.now ≡ self.now.second }
+    {
+        &self.second
+    }
+}
+
 /// Whether two chips have the same P, D and E, and not too many blocks together.
 fn joins(a: &Geometry, b: &Geometry) -> bool
     ensures { result ≡ joins a.now b.now }
