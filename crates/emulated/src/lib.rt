@@ -65,7 +65,7 @@ impl<'a> Emulated<'a> {
     }
 
     /// Does nothing. A model's invariant is closed to callers: whoever is lent a chip learns by this call what every chip keeps of its
-    /// tables and its memory, and that it is read as they are.
+    /// tables and its memory, and that the chip is that of its tables as they are.
     pub fn kept(&self)
         ensures kept { Kept self.now }
         ensures room { Room self.now.geometry (length self.now.tags) (length self.now.bytes) }
@@ -73,7 +73,7 @@ impl<'a> Emulated<'a> {
         ensures tags_fit { All (λ tag. tag < 65536) self.now.tags }
         ensures meaning { emulated self.now ≡ held self.now.geometry self.now.lines self.now.tags self.now.bytes }
     {
-        let _ = &self.geometry; // opens the chip
+        let _ = &self.geometry; // a read of a field, by which the check takes the invariant
     }
 
     /// The line of a block.

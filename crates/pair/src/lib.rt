@@ -55,14 +55,14 @@ impl<A: Chip, B: Chip> Pair<A, B> {
 }
 
 impl<A, B> Pair<A, B> {
-    /// The first chip, to look at: whatever its own type tells whoever is lent it can be asked of it here.
+    /// The first chip, lent to look at. What its type tells a caller that is lent one can be asked of it.
     pub fn first(&self) -> &A
         ensures { result.now ≡ self.now.first }
     {
         &self.first
     }
 
-    /// The second chip, to look at.
+    /// The second chip, lent to look at.
     pub fn second(&self) -> &B
         ensures { result.now ≡ self.now.second }
     {
