@@ -267,7 +267,7 @@ fn lent_chips(rt: HostRuntime) {
 }
 
 /// Two blocks of two pages of two bytes, rated for nine erases.
-const SMALL: Geometry = Geometry {
+pub const SMALL: Geometry = Geometry {
     blocks: 2,
     pages: 2,
     size: 2,

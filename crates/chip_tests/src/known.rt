@@ -4,8 +4,9 @@ ghost use Rattle.std.specs.List.{All};
 ghost use Rattle.emulated.specs.Held.{Room, LineFits, held};
 ghost use Rattle.emulated.specs.Meaning.{emulated};
 
+use crate::chips::SMALL;
 use emulated::Emulated;
-use flash::{Chip, Geometry, Refusal};
+use flash::{Chip, Refusal};
 
 /// There is a line for each block, and room in the memory for each page.
 fn has_room(chip: &Emulated<'_>)
@@ -39,13 +40,7 @@ fn read_as_they_are(chip: &Emulated<'_>)
 fn known_of_a_lent_chip(rt: HostRuntime) {
     let mut tags = [0u16; 4];
     let mut bytes = [0u8; 8];
-    let small = Geometry {
-        blocks: 2,
-        pages: 2,
-        size: 2,
-        rated: 9,
-    };
-    let mut chip = Emulated::new(small, &mut tags, &mut bytes);
+    let mut chip = Emulated::new(SMALL, &mut tags, &mut bytes);
     assert_eq!(rt; chip.erase(1), Ok(()));
     assert_eq!(rt; chip.program(1, 0, 65535, &[5, 6]), Ok(()));
     has_room(&chip);

@@ -132,20 +132,15 @@ fn a_pair_of_a_pair(rt: HostRuntime) {
 
 #[test]
 fn the_chips_of_a_pair(rt: HostRuntime) {
-    let mut tags = [0u16; 4];
-    let mut bytes = [0u8; 4];
-    let mut more_tags = [0u16; 6];
-    let mut more_bytes = [0u8; 6];
-    let first = Emulated::new(TINY, &mut tags, &mut bytes);
-    let second = Emulated::new(LARGER, &mut more_tags, &mut more_bytes);
-    let mut both = Pair::new(first, second);
-    assert_eq!(rt; both.erase(1), Ok(()));
-    assert_eq!(rt; both.program(3, 0, 65535, &[8]), Ok(()));
-    first_has_room(&both);
-    second_tags_fit(&both);
-    assert_eq!(rt; both.first().blocks(), 2);
-    assert_eq!(rt; both.first().count(1), Ok(1));
-    assert_eq!(rt; both.second().blocks(), 3);
-    assert_eq!(rt; both.second().count(1), Ok(0));
-    assert_eq!(rt; both.second().tag(1, 0), Ok(65535));
+    with_pair(LARGER, |both| {
+        assert_eq!(rt; both.erase(1), Ok(()));
+        assert_eq!(rt; both.program(3, 0, 65535, &[8]), Ok(()));
+        first_has_room(both);
+        second_tags_fit(both);
+        assert_eq!(rt; both.first().blocks(), 2);
+        assert_eq!(rt; both.first().count(1), Ok(1));
+        assert_eq!(rt; both.second().blocks(), 3);
+        assert_eq!(rt; both.second().count(1), Ok(0));
+        assert_eq!(rt; both.second().tag(1, 0), Ok(65535));
+    });
 }

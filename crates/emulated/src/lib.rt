@@ -66,6 +66,7 @@ impl<'a> Emulated<'a> {
 
     /// Does nothing. A model's invariant is closed to callers: whoever is lent a chip learns by this call what every chip keeps of its
     /// tables and its memory, and that the chip is that of its tables as they are.
+    #[tactic(auto, using(crate::specs::Meaning::emulated_is))]
     pub fn kept(&self)
         ensures kept { Kept self.now }
         ensures room { Room self.now.geometry (length self.now.tags) (length self.now.bytes) }
